@@ -1,0 +1,43 @@
+-- What put, remove and create do, said before the pages are known.
+use Prim.Native.Nat.{ℕ, _+_}
+use mathlib.Core.List.{List, _++_}
+use mathlib.Core.Bool.{Bool}
+use lib.ListN.{length}
+use lib.Dec.{ltb}
+use Rattle.blockfile.specs.Bytes.{Write}
+use Rattle.blockfile.specs.Layout.{Keyed, Table, Layout, freeCount}
+use Rattle.blockfile.specs.Free.{Drawn, draw}
+
+-- the metaindex and the tables after it, and what is written
+pub record Made : Type 0 where
+  pub meta : Table
+  pub tables : List (Keyed Table)
+  pub writes : List Write
+
+-- the old continuation pages of the span that changes, in chain order; how many pages are wanted; the span and the tower that
+-- are gone, if any; and what is made of the pages drawn
+pub record Plan : Type 0 where
+  pub old : List ℕ
+  pub wanted : ℕ
+  pub gone : List ℕ
+  pub make : (drawn : List ℕ) → Made
+
+abbrev pub drawnBy : Layout → Plan → Drawn
+drawnBy L p = draw (p .old) (p .wanted) (p .gone) (L .free)
+
+-- refusal 10: wanted pages exceed the old continuation pages plus F
+unfoldable pub lacks : Layout → Plan → Bool
+lacks L p = ltb (length (p .old) + freeCount (L .free)) (p .wanted)
+
+-- the layout after it
+unfoldable pub layoutAfter : Layout → Plan → Layout
+layoutAfter L p =
+    let d : Drawn = drawnBy L p in
+    let m : Made = p .make (d .pages) in
+    record { pages = L .pages; spanSize = L .spanSize; meta = m .meta; tables = m .tables; free = d .free }
+
+-- all that is written: what drawing writes, then the rest
+unfoldable pub writesOf : Layout → Plan → List Write
+writesOf L p =
+    let d : Drawn = drawnBy L p in
+    d .writes ++ p .make (d .pages) .writes
