@@ -1,0 +1,20 @@
+-- Every element of a list has a property.
+use mathlib.Core.List.{List, [], _∷_, _++_}
+use Rattle.blockfile.specs.Bytes.{Every}
+
+module _ {A : Type 0} (R : A → Type 0) where
+  pub every-left : (xs ys : List A) → Every R (xs ++ ys) → Every R xs
+  every-left [] ys h = tt
+  every-left (x ∷ xs) ys h = (h .0, every-left xs ys (h .1))
+
+  pub every-right : (xs ys : List A) → Every R (xs ++ ys) → Every R ys
+  every-right [] ys h = h
+  every-right (x ∷ xs) ys h = every-right xs ys (h .1)
+
+  pub every-join : (xs ys : List A) → Every R xs → Every R ys → Every R (xs ++ ys)
+  every-join [] ys h k = k
+  every-join (x ∷ xs) ys h k = (h .0, every-join xs ys (h .1) k)
+
+  pub every-so : {S : A → Type 0} → ((x : A) → R x → S x) → (xs : List A) → Every R xs → Every S xs
+  every-so f [] h = tt
+  every-so f (x ∷ xs) h = (f x (h .0), every-so f xs (h .1))

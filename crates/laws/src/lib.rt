@@ -1,0 +1,1 @@
+// Theorems on the trusted text. They stand in proofs/; there is no code.
