@@ -2,6 +2,8 @@ pub mod Bools
 pub mod Every
 pub mod Count
 pub mod Owned
+pub mod Orders
+pub mod Maps
 pub mod Unique
 pub mod Determined
 pub mod Remembers
