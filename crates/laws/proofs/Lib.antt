@@ -4,6 +4,7 @@ pub mod Count
 pub mod Owned
 pub mod Orders
 pub mod Maps
+pub mod Positions
 pub mod Chains
 pub mod Unique
 pub mod Determined
