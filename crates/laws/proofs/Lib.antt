@@ -1,11 +1,17 @@
 pub mod Bools
 pub mod Every
 pub mod Count
+pub mod Lists
+pub mod Numbers
+pub mod Pages
+pub mod Writes
 pub mod Owned
+pub mod FreeRead
 pub mod Orders
 pub mod Maps
 pub mod Positions
 pub mod Chains
 pub mod Unique
 pub mod Determined
+pub mod State
 pub mod Remembers
