@@ -12,7 +12,7 @@ use Rattle.blockfile.specs.Plan.{Plan, lacks, writesOf}
 use Rattle.blockfile.specs.Put.{putPlan}
 use Rattle.blockfile.specs.Remove.{removePlan}
 use Rattle.blockfile.specs.Create.{createPlan}
-use Rattle.blockfile.specs.Refusals.{Op, check, get, put, remove, next, create, Reply, plain, refusal, ledgerOf, refused, handed, doneReply}
+use Rattle.blockfile.specs.Refusals.{Op, check, get, put, remove, next, create, Reply, refusal, ledgerOf, refused, handed, doneReply}
 
 -- the numbers of the result, the bytes handed out, and what is written on the image
 pub record Outcome : Type 0 where

@@ -1,6 +1,6 @@
 -- Create: a put of the name into the metaindex that also wants, last, a skip-list page, a span and a head tower.
 use Prim.Native.Nat.{ℕ, _+_}
-use mathlib.Core.List.{List, [], _∷_, _++_}
+use mathlib.Core.List.{List, [], _++_}
 use lib.ListN.{getD}
 use Rattle.blockfile.specs.Bytes.{Write, word32, gather}
 use Rattle.blockfile.specs.Layout.{Entry, Table, Layout}

@@ -39,21 +39,21 @@ fedTen (next n k) b = false
 fedTen (create n) b = b
 
 abbrev pub fed : Event → Fed
-fed e = record { op = e .op; scratch = length (e .scratch); room = length (e .buffer); ten = fedTen (e .op) (eqb (e .reply .number) 10) }
+fed e = record { op = e .op; scratchLength = length (e .scratch); room = length (e .buffer); ten = fedTen (e .op) (eqb (e .reply .number) 10) }
 
--- the image has a layout with the ledger's tables
+-- the image has a layout with the ledger's P and tables
 pub record Holds (l : Ledger) (img : List ℕ) : Type 0 where
   pub layout : Layout
   pub well : WellFormed img layout
-  pub tables : ledgerOf layout ≡ l
+  pub ledger : ledgerOf layout ≡ l
+
+-- the scratch is long enough: the call is not refused with 2
+abbrev pub enough : Layout → (scratchLength : ℕ) → Bool
+enough L n = leb (1024 * L .pages) n
 
 -- 10 is due: no lower row holds, and the wanted pages exceed the old continuation pages plus F
 abbrev pub tenDue : Layout → Fed → Bool
-tenDue L c = leb (1024 * L .pages) (c .scratch) && (not (there (refused (ledgerOf L) (c .op) (c .room))) && lacking L (planOf L (c .op)))
-
--- the scratch is long enough: the call is not refused with 2
-abbrev pub enough : Layout → Event → Bool
-enough L e = leb (1024 * L .pages) (length (e .scratch))
+tenDue L c = enough L (c .scratchLength) && (not (there (refused (ledgerOf L) (c .op) (c .room))) && lacking L (planOf L (c .op)))
 
 -- what the ledger says to the call, with F that of the image's layout
 abbrev pub saidTo : Ledger → Layout → Event → Said
@@ -66,8 +66,8 @@ pub record Followed (l : Ledger) (img : List ℕ) (e : Event) : Type 0 where
   pub reply : e .reply ≡ saidTo l (holds .layout) e .reply
   pub answer : e .bufferAfter ≡ answered (saidTo l (holds .layout) e .bytes) (e .buffer)
   pub ten : eqb (e .reply .number) 10 ≡ tenDue (holds .layout) (fed e)
-  pub image : e .image ≡ cond (enough (holds .layout) e) (apply (outcomeOn (holds .layout) (e .op) (length (e .buffer)) .writes) img) img
-  pub scratch : e .scratchAfter ≡ cond (enough (holds .layout) e) (cleared (length img) (e .scratch)) (e .scratch)
+  pub image : e .image ≡ cond (enough (holds .layout) (length (e .scratch))) (apply (outcomeOn (holds .layout) (e .op) (length (e .buffer)) .writes) img) img
+  pub scratch : e .scratchAfter ≡ cond (enough (holds .layout) (length (e .scratch))) (cleared (length img) (e .scratch)) (e .scratch)
 
 -- every call on the way so, and the last image holds the ledger's tables
 abbrev pub Remembered : Ledger → (img : List ℕ) → List Event → Type 0

@@ -32,7 +32,7 @@ pub record Column : Type 0 where
   pub span : Span
   pub tower : Option Tower
 
--- a table: its skip-list page and span size, the first span and its tower, the head, and the other spans with their towers
+-- a table: its skip-list page and span size; the first span, and the head, which is its tower; the other spans with their towers
 pub record Table : Type 0 where
   pub root : ℕ
   pub spanSize : ℕ
@@ -76,7 +76,13 @@ freeCount [] = 0
 freeCount (b ∷ bs) = 1 + length (b .listed) + freeCount bs
 
 -- ---- Entry layout. A span's bytes are one stream: its page from offset 8 on, then each continuation page from offset 8 on.
--- Position v is on page v / 1016 of these pages, counted from 0, at offset 8 + v % 1016.
+
+-- the page of the stream, counted from 0, and the offset there that position v stands for
+abbrev pub pageOf : (v : ℕ) → ℕ
+pageOf v = v / 1016
+
+abbrev pub offsetOf : (v : ℕ) → ℕ
+offsetOf v = 8 + v % 1016
 
 -- entries from offset 20 of the span's page, which is position 12
 abbrev pub entriesFrom : ℕ

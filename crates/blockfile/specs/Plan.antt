@@ -8,7 +8,7 @@ use Rattle.blockfile.specs.Bytes.{Write}
 use Rattle.blockfile.specs.Layout.{Keyed, Table, Layout, freeCount}
 use Rattle.blockfile.specs.Free.{Drawn, draw}
 
--- the metaindex and the tables after it, and what is written
+-- the metaindex and the tables after the call, and what is written
 pub record Made : Type 0 where
   pub meta : Table
   pub tables : List (Keyed Table)
@@ -29,7 +29,7 @@ drawnBy L p = draw (p .old) (p .wanted) (p .gone) (L .free)
 unfoldable pub lacks : Layout → Plan → Bool
 lacks L p = ltb (length (p .old) + freeCount (L .free)) (p .wanted)
 
--- the layout after it
+-- the layout after the call. No promise rests on it: the laws show that the image has this layout once all is written
 unfoldable pub layoutAfter : Layout → Plan → Layout
 layoutAfter L p =
     let d : Drawn = drawnBy L p in

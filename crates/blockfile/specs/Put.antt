@@ -87,7 +87,7 @@ share p ps =
       tower = take (towerWanted p) (drop (contsWanted p + spanWanted (p .move)) ps);
     }
 
--- ---- The table after it
+-- ---- The table after the call
 
 -- the new tower; its max height is the head's
 abbrev pub newTower : Table → Parts → (page : List ℕ) → Option Tower
@@ -129,7 +129,7 @@ tableAfter t i p s =
     withColumns i (newColumns t p s) (p .height)
     (withSpan i (record { page = spanAt t i .page; conts = s .conts; entries = p .stay }) t)
 
--- ---- What is written, from the table after it
+-- ---- What is written, from the table after the call
 
 abbrev pub prevLink : LinkedSpan → Write
 prevLink x = on (x .span .page) 8 (word32 (x .prev))

@@ -1,8 +1,8 @@
--- The refusal table, on an image's tables as maps.
+-- Calls and replies; an image's tables as maps; the refusal table, rows 4 to 9; what done calls answer.
 use Prim.Native.Nat.{ℕ, _+_}
 use mathlib.Core.List.{List, [], _∷_, map}
 use mathlib.Core.Option.{Option, none, some, Option·getD}
-use mathlib.Core.Bool.{Bool, true, false, not, cond, _&&_, _||_}
+use mathlib.Core.Bool.{Bool, not, cond, _&&_, _||_}
 use lib.ListN.{length}
 use lib.Dec.{ltb}
 use Rattle.blockfile.specs.declared.Refusal.{Refusal}
@@ -65,7 +65,7 @@ abbrev pub keysIn : List (Keyed (List Entry)) → ℕ
 keysIn [] = 0
 keysIn (n ∷ ns) = length (n .value) + keysIn ns
 
--- what get and next look for: the key's value; the smallest key above the one asked
+-- what get, remove and next look for: the key's value; the smallest key above the one asked
 abbrev pub sought : Ledger → Op → Option (List ℕ)
 sought l check = none
 sought l (get n k) = find k (mapOf l n)

@@ -18,7 +18,7 @@ without t i =
 abbrev pub towersAt : Table → (i : ℕ) → List Tower
 towersAt t i = towersOf (take 1 (drop i (columns t)))
 
--- from the table after it: the links around the span that was at place i, the entries that pointed to its tower at each of the
+-- from the table after the call: the links around the span that was at place i, the entries that pointed to its tower at each of the
 -- tower's levels, the counts
 unfoldable pub unlinking : (after : Table) (i : ℕ) → (gone : List Tower) → List Write
 unlinking after i ts =

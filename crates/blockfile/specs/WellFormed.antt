@@ -1,12 +1,12 @@
 -- Well-formed: the image's bytes show a layout, the layout keeps the rules, and each page is owned exactly once.
-use Prim.Native.Nat.{ℕ, zero, suc, _+_, _*_, _≤_}
+use Prim.Native.Nat.{ℕ, _+_, _*_, _≤_}
 use mathlib.Core.Path.{_≡_}
 use mathlib.Core.List.{List, [], _∷_, _++_, map}
 use mathlib.Core.Bool.{cond}
 use lib.ListN.{length}
 use lib.Dec.{T, ltb, eqb}
 use Rattle.blockfile.specs.Bytes.{pg, word32, Every, gather, from, firstOf}
-use Rattle.blockfile.specs.Layout.{Keyed, Entry, Span, Tower, Column, Table, Block, Layout, columns, spansOf, towersOf, towerIn, entriesOf, reached}
+use Rattle.blockfile.specs.Layout.{Span, Tower, Column, Table, Block, Layout, columns, spansOf, towersOf, towerIn, entriesOf, reached}
 use Rattle.blockfile.specs.Order.{KeyRule, nameRule, keyRule, Within, within, Rising}
 use Rattle.blockfile.specs.Fields.{SkipList, LinkedSpan, LinkedTower, IsSuperblock, IsSkipList, IsTower, IsSpan, IsBlock, IsFree}
 
@@ -131,12 +131,13 @@ pub record WellFormed (img : List ℕ) (L : Layout) : Type 0 where
   pub blocksOk : Every (λ b. length (b .listed) ≤ 252) (L .free)
   -- every page bears the mark, and keeps the field rules, of the kind it is owned as
   pub bears : Every (Bears (pg img)) (pieces L)
-  -- each of the P pages is owned exactly once, and no other number is a page's
+  -- each of the P pages is owned exactly once; no other number, 0 among them, is owned
   pub once : (n : ℕ) → count n (gather pagesOf (pieces L)) ≡ cond (within 1 (L .pages) n) 1 0
 
--- refusal 3 is given exactly where no layout fits
+-- some layout fits
 abbrev pub Accepted : List ℕ → Type 0
 Accepted img = (L : Layout) × WellFormed img L
 
+-- no layout fits: refusal 3 is given exactly there
 abbrev pub Rejected : List ℕ → Type 0
 Rejected img = (L : Layout) → WellFormed img L → ⊥

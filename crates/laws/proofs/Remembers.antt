@@ -83,7 +83,7 @@ fed-true L (create n) h = refl
 -- ---- An outcome on the layout is the ledger's step
 
 abbrev fedBy : Op → (scratch room : ℕ) → Reply → Fed
-fedBy op s room r = record { op = op; scratch = s; room = room; ten = fedTen op (eqb (r .number) 10) }
+fedBy op s room r = record { op = op; scratchLength = s; room = room; ten = fedTen op (eqb (r .number) 10) }
 
 -- what one call has to show, the rows' answer being q
 record Agrees (L : Layout) (op : Op) (s room : ℕ) (q : Option Refusal) (o : Outcome) : Type 0 where
@@ -101,7 +101,7 @@ record One (img : List ℕ) (L : Layout) (op : Op) (s room : ℕ) (o : Outcome) 
   image : apply (o .writes) img ≡ cond (leb (1024 * L .pages) s) (apply (outcomeOn L op room .writes) img) img
 
 unchanged : (L : Layout) (img : List ℕ) → WellFormed img L → Holds (ledgerOf L) img
-unchanged L img w = record { layout = L; well = w; tables = refl }
+unchanged L img w = record { layout = L; well = w; ledger = refl }
 
 module _ (img : List ℕ) (L : Layout) (w : WellFormed img L) where
   small : (s : ℕ) → s < length img → (ltb s (1024 * L .pages) ≡ true) × (leb (1024 * L .pages) s ≡ false)
@@ -179,7 +179,7 @@ module _ (after : Preserved) where
       let room : ℕ = length (e .buffer) in
       let fedAs : Reply → Fed = fedBy (e .op) (length (e .scratch)) room in
       let F : ℕ = freeCount (L .free) in
-      let o : One img L (e .op) (length (e .scratch)) room (k .outcome) × (e .scratchAfter ≡ cond (enough L e) (cleared (length img) (e .scratch)) (e .scratch))
+      let o : One img L (e .op) (length (e .scratch)) room (k .outcome) × (e .scratchAfter ≡ cond (enough L (length (e .scratch))) (cleared (length img) (e .scratch)) (e .scratch))
       = one img L w (e .op) (e .scratch) room (k .outcome) (e .scratchAfter) (k .called) in (
         record {
           holds = unchanged L img w;
@@ -200,4 +200,4 @@ module _ (after : Preserved) where
   remembers img L [] w r = unchanged L img w
   remembers img L (e ∷ es) w r =
       let f : (g : Followed (ledgerOf L) img e) × Holds (saidTo (ledgerOf L) (g .holds .layout) e .ledger) (e .image) = followed img L w e (r .0) in
-      (f .0, subst (λ l. Remembered l (e .image) es) (f .1 .tables) (remembers (e .image) (f .1 .layout) es (f .1 .well) (r .1)))
+      (f .0, subst (λ l. Remembered l (e .image) es) (f .1 .ledger) (remembers (e .image) (f .1 .layout) es (f .1 .well) (r .1)))
