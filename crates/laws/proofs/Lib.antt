@@ -10,6 +10,7 @@ pub mod FreeRead
 pub mod Orders
 pub mod Maps
 pub mod Positions
+pub mod Streams
 pub mod Chains
 pub mod Unique
 pub mod Determined
