@@ -1,0 +1,4 @@
+pub mod Stores
+pub mod Marks
+pub mod Claims
+pub mod Taking

@@ -1,0 +1,164 @@
+-- Marks: the code's table is the text's, and what it means that a page begins with a mark.
+use Prim.Native.Nat.{ℕ, zero, suc, _+_, _*_, _-_, _≤_, _<_}
+use mathlib.Core.Bool.{Bool, true, false, _&&_, cond}
+use mathlib.Core.List.{List, [], _∷_}
+use mathlib.Core.Path.{_≡_, refl, ap, ap₂, sym, _∙_, subst}
+use native.Mathlib.Nat.{le-of-suc-le-suc, not-suc-le-zero}
+use native.Mathlib.Numerals.{add-one}
+use native.Mathlib.Omega.{arith}
+use lib.ListN.{length, take, drop, getD, length-take, length-drop}
+use lib.Seq.{drop-cons, getD-take, getD-drop}
+use borrow.Author.Tests.{eq-eqb, ne-eqb, eqb-true}
+use lib.Dec.{T, eqb, leb, eqb→eq, leb→le}
+use Rattle.blockfile.specs.Bytes.{pg}
+use Rattle.blockfile.specs.Marks.{marks, superMark, skipMark, towerMark, spanMark, contMark, blockMark, freeMark}
+use Rattle.blockfile.specs.Order.{same}
+use Rattle.laws.proofs.Pages.{pg-at, length-pg}
+use Rattle.pages.specs.Begins.{begins, firstMark, kindOf}
+
+both-left : (a b : Bool) → T (a && b) → T a
+both-left true b t = tt
+both-left false b t = t
+
+both-right : (a b : Bool) → T (a && b) → T b
+both-right true b t = t
+both-right false b t = absurd t
+
+-- ---- the table, by one computed test over all kinds
+
+-- the test passes at each number below n
+abbrev every : (ℕ → Bool) → ℕ → Bool
+every f zero = true
+every f (suc n) = f 0 && every (λ k. f (suc k)) n
+
+at : (f : ℕ → Bool) (n : ℕ) → T (every f n) → (k : ℕ) → k < n → T (f k)
+at f zero t k h = absurd (not-suc-le-zero h)
+at f (suc n) t zero h = both-left (f 0) (every (λ k. f (suc k)) n) t
+at f (suc n) t (suc k) h = at (λ k. f (suc k)) n (both-right (f 0) (every (λ k. f (suc k)) n) t) k (le-of-suc-le-suc h)
+
+same-eq : (a b : List ℕ) → T (same a b) → a ≡ b
+same-eq [] [] t = refl
+same-eq [] (y ∷ b) t = absurd t
+same-eq (x ∷ a) [] t = absurd t
+same-eq (x ∷ a) (y ∷ b) t =
+    ap₂ (λ (z : ℕ) (l : List ℕ). z ∷ l) (eqb→eq x y (both-left (eqb x y) (same a b) t)) (same-eq a b (both-right (eqb x y) (same a b) t))
+
+-- the tables of the code
+abbrev pub table : List ℕ
+table =
+    0x31 ∷ 0x41 ∷ 0xde ∷ 0x49 ∷ 0x32 ∷ 0x50 ∷ 0 ∷ 0 ∷ 0x53 ∷ 0x6b ∷ 0x69 ∷ 0x70 ∷ 0x4c ∷ 0x69 ∷ 0x73 ∷ 0x74
+    ∷ 0x42 ∷ 0x53 ∷ 0x4c ∷ 0x65 ∷ 0x76 ∷ 0x65 ∷ 0x6c ∷ 0x73 ∷ 0x53 ∷ 0x70 ∷ 0x61 ∷ 0x6e ∷ 0 ∷ 0 ∷ 0 ∷ 0
+    ∷ 0x43 ∷ 0x4f ∷ 0x4e ∷ 0x54 ∷ 0 ∷ 0 ∷ 0 ∷ 0 ∷ 0x23 ∷ 0x66 ∷ 0x72 ∷ 0x4c ∷ 0x69 ∷ 0x73 ∷ 0x74 ∷ 0x23
+    ∷ 0x7e ∷ 0x21 ∷ 0x46 ∷ 0x52 ∷ 0x45 ∷ 0x45 ∷ 0x21 ∷ 0x7e ∷ []
+
+abbrev pub lengths : List ℕ
+lengths = 6 ∷ 8 ∷ 8 ∷ 4 ∷ 4 ∷ 8 ∷ 8 ∷ []
+
+rowOk : ℕ → Bool
+rowOk k =
+    same (take (getD lengths k 0) (drop (8 * k) table)) (getD marks k [])
+    && (eqb (length (getD marks k [])) (getD lengths k 0) && leb (getD lengths k 0) 8)
+
+row : (k : ℕ) → k < 7 → T (rowOk k)
+unfolding rowOk superMark skipMark towerMark spanMark contMark blockMark freeMark
+row k h = at rowOk 7 tt k h
+
+module _ (k : ℕ) (h : k < 7) where
+  -- THE CODE'S TABLE IS THE TEXT'S
+  pub mark-row : take (getD lengths k 0) (drop (8 * k) table) ≡ getD marks k []
+  unfolding rowOk
+  mark-row = same-eq (take (getD lengths k 0) (drop (8 * k) table)) (getD marks k [])
+    (both-left (same (take (getD lengths k 0) (drop (8 * k) table)) (getD marks k [])) (eqb (length (getD marks k [])) (getD lengths k 0) && leb (getD lengths k 0) 8) (row k h))
+
+  sizes : T (eqb (length (getD marks k [])) (getD lengths k 0) && leb (getD lengths k 0) 8)
+  unfolding rowOk
+  sizes = both-right (same (take (getD lengths k 0) (drop (8 * k) table)) (getD marks k [])) (eqb (length (getD marks k [])) (getD lengths k 0) && leb (getD lengths k 0) 8) (row k h)
+
+  pub mark-length : length (getD marks k []) ≡ getD lengths k 0
+  mark-length = eqb→eq _ _ (both-left (eqb (length (getD marks k [])) (getD lengths k 0)) (leb (getD lengths k 0) 8) sizes)
+
+  pub mark-short : getD lengths k 0 ≤ 8
+  mark-short = leb→le _ _ (both-right (eqb (length (getD marks k [])) (getD lengths k 0)) (leb (getD lengths k 0) 8) sizes)
+
+  pub mark-at : (i : ℕ) → i < getD lengths k 0 → getD table (8 * k + i) 0 ≡ getD (getD marks k []) i 0
+  mark-at i l = sym (ap (λ (m : List ℕ). getD m i 0) (sym mark-row) ∙ getD-take (getD lengths k 0) (drop (8 * k) table) i 0 l ∙ getD-drop (8 * k) table i 0)
+
+-- ---- beginning with a mark: both directions
+
+pub begins-take : (m b : List ℕ) → begins m b ≡ true → take (length m) b ≡ m
+unfolding begins
+begins-take [] b e = refl
+begins-take (x ∷ m) [] e = absurd (subst T (sym e) tt)
+begins-take (x ∷ m) (y ∷ b) e = go (eqb y x) refl e (begins-take m b)
+  where
+    go : (t : Bool) → eqb y x ≡ t → t && begins m b ≡ true → (begins m b ≡ true → take (length m) b ≡ m) → y ∷ take (length m) b ≡ x ∷ m
+    go true q e ih = ap₂ (λ (a : ℕ) (l : List ℕ). a ∷ l) (eqb-true y x q) (ih e)
+    go false q e ih = absurd (subst T (sym e) tt)
+
+pub take-begins : (m b : List ℕ) → take (length m) b ≡ m → begins m b ≡ true
+unfolding begins
+take-begins [] b e = refl
+take-begins (x ∷ m) [] e = absurd (let z : _≡_ {A = ℕ} 0 1 = cc in omega arith)
+take-begins (x ∷ m) (y ∷ b) e = let q : y ≡ x = cc in rw (eq-eqb y x q) (take-begins m b (cc))
+
+-- ---- a loop that compares the mark m, n bytes long, with b has found i bytes alike
+
+pub record Matched (m b : List ℕ) (n i : ℕ) : Type 0 where
+  pub whole : length m ≡ n
+  pub most : i ≤ n
+  pub short : n ≤ 8
+  pub rest : begins (drop i m) (drop i b) ≡ begins m b
+
+module _ (img : List ℕ) (p k : ℕ) (low : 1 ≤ p) (high : 1024 * p ≤ length img) (h : k < 7) where
+  abbrev Found : ℕ → Type 0
+  Found i = Matched (getD marks k []) (pg img p) (getD lengths k 0) i
+
+  pub matched-none : Found 0
+  matched-none = record { whole = mark-length k h; most = omega arith; short = mark-short k h; rest = refl }
+
+  module _ (i : ℕ) (s : Found i) (l : i < getD lengths k 0) where
+    here : begins (drop i (getD marks k [])) (drop i (pg img p))
+        ≡ eqb (getD img (1024 * (p - 1) + i) 0) (getD table (8 * k + i) 0) && begins (drop (i + 1) (getD marks k [])) (drop (i + 1) (pg img p))
+    unfolding begins
+    here =
+        let a : i < length (getD marks k []) = omega (arith, s .whole) in
+        let b : i < length (pg img p) = omega (arith, length-pg img p low high, s .short) in
+        rw (drop-cons (getD marks k []) i 0 a, drop-cons (pg img p) i 0 b, pg-at img p i low (omega (arith, s .short)), ← mark-at k h i l, add-one i)
+
+    pub matched-more : getD img (1024 * (p - 1) + i) 0 ≡ getD table (8 * k + i) 0 → Found (i + 1)
+    matched-more e = record {
+      whole = s .whole;
+      most = omega arith;
+      short = s .short;
+      rest = sym (sym (s .rest) ∙ here ∙ rw (eq-eqb _ _ e));
+    }
+
+    pub matched-not : (getD img (1024 * (p - 1) + i) 0 ≡ getD table (8 * k + i) 0 → ⊥) → false ≡ begins (getD marks k []) (pg img p)
+    matched-not e = sym (sym (s .rest) ∙ here ∙ rw (ne-eqb _ _ e))
+
+begins-end : (m b : List ℕ) (i : ℕ) → length m ≤ i → begins (drop i m) b ≡ true
+unfolding begins
+begins-end [] b zero h = refl
+begins-end [] b (suc i) h = refl
+begins-end (x ∷ m) b zero h = absurd (not-suc-le-zero h)
+begins-end (x ∷ m) b (suc i) h = begins-end m b i (le-of-suc-le-suc h)
+
+pub matched-all : {m b : List ℕ} {n i : ℕ} → Matched m b n i → n ≤ i → true ≡ begins m b
+matched-all {m} {b} {n} {i} s l = sym (begins-end m (drop i b) i (omega (arith, s .whole))) ∙ s .rest
+
+-- ---- the kind of a page
+
+module _ (b : List ℕ) (k : ℕ) (h : k < 7) where
+  next-kind : firstMark (drop k marks) b ≡ cond (begins (getD marks k []) b) 0 (suc (firstMark (drop (k + 1) marks) b))
+  unfolding firstMark
+  next-kind = rw (drop-cons marks k [] h, add-one k)
+
+  pub kind-here : k + firstMark (drop k marks) b ≡ kindOf b → begins (getD marks k []) b ≡ true → k ≡ kindOf b
+  kind-here e t = omega (arith, rw t at next-kind)
+
+  pub kind-later : k + firstMark (drop k marks) b ≡ kindOf b → begins (getD marks k []) b ≡ false → k + 1 + firstMark (drop (k + 1) marks) b ≡ kindOf b
+  kind-later e t = omega (arith, rw t at next-kind)
+
+pub kind-none : (b : List ℕ) (k : ℕ) → k ≡ 7 → k + firstMark (drop k marks) b ≡ kindOf b → k ≡ kindOf b
+unfolding firstMark
+kind-none b k z e = z ∙ rw z at e

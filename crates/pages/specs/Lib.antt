@@ -1,0 +1,4 @@
+pub mod Places
+pub mod Begins
+pub mod Claims
+pub mod Taking
