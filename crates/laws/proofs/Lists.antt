@@ -8,8 +8,19 @@ use mathlib.Core.Logic.{_⊎_, inl, inr}
 use mathlib.Core.List.{List, [], _∷_, _++_, append-nil}
 use lib.ListN.{length, getD, take, drop, set, length-take, length-set, drop-of-length-le, List·getD-append}
 use lib.Seq.{
-    sets, sets-eq, take-suc, take-all, take-set-le, take-set-lt, take-append-le, drop-set-add, getD-take, getD-set-same, getD-set-other,
-    getD-append-add, ext-getD
+  sets,
+  sets-eq,
+  take-suc,
+  take-all,
+  take-set-le,
+  take-set-lt,
+  take-append-le,
+  drop-set-add,
+  getD-take,
+  getD-set-same,
+  getD-set-other,
+  getD-append-add,
+  ext-getD,
 }
 
 -- a read of w bytes from a on meets no write of n bytes from o on

@@ -68,10 +68,13 @@ pg-write-other img (suc k) (suc j) o bs h f =
   where
     written : List ℕ
     written = sets img (1024 * k + o) bs
+
     away : j ≢ k
     away e = h (ap suc e)
+
     apart : Apart (1024 * j) 1024 (1024 * k + o) (length bs)
     apart = by-cases (decLt j k) (λ l. inl (omega arith)) (λ l. inr (omega (arith, away)))
+
     same : (i : ℕ) → i < length (take 1024 (drop (1024 * j) written)) → getD (take 1024 (drop (1024 * j) written)) i 0 ≡ getD (take 1024 (drop (1024 * j) img)) i 0
     same i l =
         let q : i < 1024 = omega (arith, simp length-take at l) in

@@ -68,7 +68,7 @@ module _ (k : ℕ) (h : k < 7) where
   pub mark-row : take (getD lengths k 0) (drop (8 * k) table) ≡ getD marks k []
   unfolding rowOk
   mark-row = same-eq (take (getD lengths k 0) (drop (8 * k) table)) (getD marks k [])
-    (both-left (same (take (getD lengths k 0) (drop (8 * k) table)) (getD marks k [])) (eqb (length (getD marks k [])) (getD lengths k 0) && leb (getD lengths k 0) 8) (row k h))
+      (both-left (same (take (getD lengths k 0) (drop (8 * k) table)) (getD marks k [])) (eqb (length (getD marks k [])) (getD lengths k 0) && leb (getD lengths k 0) 8) (row k h))
 
   sizes : T (eqb (length (getD marks k [])) (getD lengths k 0) && leb (getD lengths k 0) 8)
   unfolding rowOk

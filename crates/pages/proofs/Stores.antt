@@ -59,7 +59,7 @@ chunk-is : (src : List ℕ) (f n : ℕ) → Chunk (length src) f n → take n (d
 chunk-is src f n h =
     by-cases (decLt n 1016)
     (λ l. let e : f + n ≡ length src = h .all l in
-      take-all n (drop f src) (rw length-drop (omega arith)) ∙ sym (take-all 1016 (drop f src) (rw length-drop (omega arith))))
+    take-all n (drop f src) (rw length-drop (omega arith)) ∙ sym (take-all 1016 (drop f src) (rw length-drop (omega arith))))
     (λ l. let e : n ≡ 1016 = omega arith in rw e)
 
 pub stream-page : (img : List ℕ) (p : ℕ) (mark : List ℕ) (link : ℕ) (src : List ℕ) (f n : ℕ) → length mark ≡ 4 → Chunk (length src) f n
@@ -72,7 +72,11 @@ stream-page img p mark link src f n four h =
     let lc : length c ≡ n = rw (length-take, length-drop) (omega arith) in
     let lw : length (mark ++ word32 link) ≡ 8 = rw (length-append, four, length-word32 link) in
     let la : length ((mark ++ word32 link) ++ c) ≡ 8 + n = rw (length-append, lw, lc) in
-    rw (e, ← chunk-is src f n h, lc,
+    rw (
+      e,
+      ← chunk-is src f n h,
+      lc,
       write-append img p 0 4 mark (word32 link) (omega arith),
       write-append img p 0 8 (mark ++ word32 link) c (omega arith),
-      write-append img p 0 (8 + n) ((mark ++ word32 link) ++ c) z (omega arith)) (simp append-assoc)
+      write-append img p 0 (8 + n) ((mark ++ word32 link) ++ c) z (omega arith),
+    ) (simp append-assoc)

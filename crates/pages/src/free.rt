@@ -5,10 +5,10 @@ ghost use Rattle.blockfile.specs.Bytes.{apply};
 ghost use Rattle.laws.proofs.FreeRead.{listWrites, blockWrites};
 ghost use Rattle.pages.specs.Places.{Inside};
 ghost use Rattle.pages.specs.Taking.{Takeable, Took, Giveable, Gave};
-
 use crate::mark;
 use crate::read::get32;
-use crate::write::{put32, put_mark};
+use crate::write::put_mark;
+use crate::write::put32;
 
 // Takes a page from the free list, which must not be empty.
 pub fn take_page(image: &mut [u8]) -> usize

@@ -74,22 +74,11 @@ fn chunk(len: usize, from: usize) -> usize
     requires { ⌜ from ≤ len ⌝ }
     ensures { λ r. ⌜ Chunk len from r ⌝ }
 {
-    if len - from < 1016 {
-        len - from
-    } else {
-        1016
-    }
+    if len - from < 1016 { len - from } else { 1016 }
 }
 
 // A page of a stream, written whole: its mark, its link, the bytes of src from byte `from` on, zeros where src ends.
-pub fn put_page(
-    image: &mut [u8],
-    page: usize,
-    kind: usize,
-    link: usize,
-    src: &[u8],
-    from: usize,
-)
+pub fn put_page(image: &mut [u8], page: usize, kind: usize, link: usize, src: &[u8], from: usize)
     requires { ⌜ (kind < 7) × (length (getD marks kind []) ≡ 4) × Inside (now image) page 0 1024 × (from ≤ length (now src)) ⌝ }
     ensures { λ _. ⌜ now (image .exit) ≡ write (now (image .entry)) page 0 (getD marks kind [] ++ (word32 link ++ padded 1016 (take 1016 (drop from (now (src .entry)))))) ⌝ }
 {

@@ -1,0 +1,2 @@
+pub mod Founds
+pub mod Once
