@@ -62,6 +62,10 @@ pub zeros-claimed : (scr : List ℕ) (n : ℕ) → Open scr n → zeros scr ≡ 
 unfolding claimed
 zeros-claimed scr n o = zeros-set scr (n - 1) (omega arith) (o .free)
 
+pub zeros-claims : (scr ns : List ℕ) → Fresh scr ns → zeros scr ≡ length ns + zeros (claims scr ns)
+zeros-claims scr [] f = omega arith
+zeros-claims scr (n ∷ ns) f = omega (arith, zeros-claimed scr n (f .0), zeros-claims (claimed scr n) ns (f .1))
+
 pub zeros-most : (scr : List ℕ) → zeros scr ≤ length scr
 zeros-most [] = zero-le
 zeros-most (x ∷ s) = go (eqb x 0) (zeros-most s)

@@ -1,0 +1,2 @@
+// Is an image well-formed: one module for each kind of thing.
+pub mod free;
