@@ -1,0 +1,26 @@
+//! The independent second program of the calibration store: document 01 over ordinary Rust data,
+//! for comparing whole images byte by byte.
+
+pub mod audit;
+pub mod calls;
+pub mod check;
+pub mod damage;
+pub mod edit;
+pub mod emit;
+pub mod encode;
+pub mod entries;
+pub mod events;
+pub mod explain;
+pub mod free;
+pub mod fuzz;
+pub mod generate;
+pub mod layout;
+pub mod ledger;
+pub mod legal;
+pub mod page;
+pub mod program;
+pub mod random;
+pub mod request;
+pub mod rule;
+pub mod script;
+pub mod theorems;
