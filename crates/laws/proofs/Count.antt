@@ -1,7 +1,8 @@
 -- How often a number is in a list.
 use Prim.Native.Nat.{ℕ, zero, suc, _+_, _≤_}
 use native.Mathlib.Omega.{arith}
-use mathlib.Core.Path.{_≡_}
+use mathlib.Core.Path.{_≡_, sym, subst}
+use mathlib.Core.Logic.{_≢_}
 use mathlib.Core.List.{List, [], _∷_, _++_}
 use lib.Dec.{eqb, eqb-refl}
 use Rattle.blockfile.specs.Bytes.{Every}
@@ -34,3 +35,9 @@ every-counted R (m ∷ ns) h = (
   h m (let e : count m (m ∷ ns) ≡ 1 + count m ns = count-here m ns in omega arith),
   every-counted R ns (λ n l. h n (let e : count n ns ≤ count n (m ∷ ns) = count-more n m ns in omega arith)),
 )
+
+-- a number that is not in the list is not its first
+pub not-first : (n m : ℕ) (ms : List ℕ) → count n (m ∷ ms) ≡ 0 → m ≢ n
+not-first n m ms h e =
+    let k : count n (m ∷ ms) ≡ 1 + count n ms = subst (λ (x : ℕ). count n (x ∷ ms) ≡ 1 + count n ms) (sym e) (count-here n ms) in
+    omega arith

@@ -1,5 +1,5 @@
 -- Every element of a list has a property.
-use mathlib.Core.List.{List, [], _∷_, _++_}
+use mathlib.Core.List.{List, [], _∷_, _++_, map}
 use Rattle.blockfile.specs.Bytes.{Every}
 
 module _ {A : Type 0} (R : A → Type 0) where
@@ -18,3 +18,13 @@ module _ {A : Type 0} (R : A → Type 0) where
   pub every-so : {S : A → Type 0} → ((x : A) → R x → S x) → (xs : List A) → Every R xs → Every S xs
   every-so f [] h = tt
   every-so f (x ∷ xs) h = (f x (h .0), every-so f xs (h .1))
+
+-- of a mapped list
+module _ {A B : Type 0} (R : B → Type 0) (f : A → B) where
+  pub every-map : (xs : List A) → Every (λ x. R (f x)) xs → Every R (map f xs)
+  every-map [] h = tt
+  every-map (x ∷ xs) h = (h .0, every-map xs (h .1))
+
+  pub every-unmap : (xs : List A) → Every R (map f xs) → Every (λ x. R (f x)) xs
+  every-unmap [] h = tt
+  every-unmap (x ∷ xs) h = (h .0, every-unmap xs (h .1))

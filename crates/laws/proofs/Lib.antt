@@ -15,4 +15,6 @@ pub mod Chains
 pub mod Unique
 pub mod Determined
 pub mod State
+pub mod Steps
+pub mod Opens
 pub mod Remembers
