@@ -17,4 +17,6 @@ pub mod Determined
 pub mod State
 pub mod Steps
 pub mod Opens
+pub mod Written
+pub mod Edits
 pub mod Remembers

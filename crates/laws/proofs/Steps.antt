@@ -22,7 +22,7 @@ abbrev pub Kept : (g h : ℕ → List ℕ) → List ℕ → Type 0
 Kept g h ns = Every (λ n. g n ≡ h n) ns
 
 module _ (g h : ℕ → List ℕ) where
-  map-kept : (ns : List ℕ) → Kept g h ns → map g ns ≡ map h ns
+  pub map-kept : (ns : List ℕ) → Kept g h ns → map g ns ≡ map h ns
   map-kept [] k = refl
   map-kept (n ∷ ns) k = ap₂ {C = List (List ℕ)} (λ b bs. b ∷ bs) (k .0) (map-kept ns (k .1))
 
