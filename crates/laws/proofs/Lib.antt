@@ -19,4 +19,5 @@ pub mod Steps
 pub mod Opens
 pub mod Written
 pub mod Edits
+pub mod Encodes
 pub mod Remembers

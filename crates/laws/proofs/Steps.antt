@@ -176,6 +176,16 @@ pub scribble : {p : ℕ} {img : List ℕ} (qs : List Piece) (sp : List ℕ) (n o
     → Holds p img qs sp → Holds p (write img n o w) qs sp
 scribble qs sp n o w f c h = replace [] qs [] [] sp n o w f (omega arith) (λ m. refl) (λ e. tt) h
 
+-- a page in hand is written from its start on, and becomes a piece of one page
+pub adopt : {p : ℕ} {img : List ℕ} (xs ys : List Piece) (q : Piece) (sp : List ℕ) (n : ℕ) (w : List ℕ) → length w ≤ 1024 → pagesOf q ≡ n ∷ []
+    → (1 ≤ n → 1024 * n ≤ length img → Bears (pg (write img n 0 w)) q)
+    → Holds p img (xs ++ ys) (n ∷ sp) → Holds p (write img n 0 w) (xs ++ (q ∷ ys)) sp
+adopt {p} {img} xs ys q sp n w f e b h =
+    let c : count n (n ∷ sp) ≡ 1 + count n sp = count-here n sp in
+    let r : Within 1 p n = in-range h n (omega arith) in
+    claim xs ys q sp (b (r .0) (lies-in h n (omega arith)))
+    (subst (λ (ns : List ℕ). Holds p (write img n 0 w) (xs ++ ys) (ns ++ sp)) (sym e) (scribble (xs ++ ys) (n ∷ sp) n 0 w (omega arith) (omega arith) h))
+
 -- A field of one piece's first page n is written: the piece becomes another of the same pages
 pub edit : {p : ℕ} {img : List ℕ} (xs ys : List Piece) (q q′ : Piece) {sp : List ℕ} (n o : ℕ) (ns w : List ℕ)
     → o + length w ≤ 1024 → pagesOf q ≡ n ∷ ns → pagesOf q′ ≡ n ∷ ns
