@@ -1,5 +1,5 @@
 -- Pages written whole: what is encoded is read back.
-use Prim.Native.Nat.{ℕ, zero, suc, _+_, _*_, _-_, _<_, _≤_}
+use Prim.Native.Nat.{ℕ, zero, suc, _+_, _*_, _-_, _/_, _<_, _≤_}
 use native.Mathlib.Omega.{arith}
 use native.Mathlib.Nat.{add-zero}
 use native.Mathlib.Decide.{decLt}
@@ -200,7 +200,7 @@ join-page s m h = by-cases (decLt (length s) 1016) short long
     short : length s < 1016 → padded 1016 (take 1016 s) ++ padded (1016 * m) (drop 1016 s) ≡ padded (1016 * suc m) s
     short l =
         let t : take 1016 s ≡ s = take-all 1016 s (omega arith) in
-        let d : drop 1016 s ≡ [] = drop-of-length-le s (omega arith) in
+        let d : drop 1016 s ≡ [] = drop-of-length-le s {i = 1016} (omega arith) in
         let q : (1016 - length s) + (1016 * m - 0) ≡ 1016 * suc m - length s = omega arith in
         ap₂ (λ (a b : List ℕ). padded 1016 a ++ padded (1016 * m) b) t d
         ∙ append-assoc s (replicate (1016 - length s) 0) (replicate (1016 * m - 0) 0)
@@ -306,5 +306,109 @@ wrote {p} img qs sp mark (n ∷ ns) s l c h =
     record {
       holds = w .holds;
       bytes = ap₂ {C = List (List ℕ)} (λ y ys. y ∷ ys) (w .other n (omega arith) ∙ e) (w .bytes);
-      other = λ m q. w .other m (omega arith) ∙ pg-write-other img n m 0 b ? (omega arith);
+      other = λ m q. w .other m (omega arith) ∙ pg-write-other img n m 0 b (λ g. not-first m n ns q (sym g)) (omega arith);
     }
+
+-- A span is written whole to pages in hand
+pub whole-span : {p z : ℕ} {img : List ℕ} {ks : List SkipList} {ts : List LinkedTower} {bs : List Block} {sp : List ℕ} (xs ys : List LinkedSpan) (x : LinkedSpan)
+    → SpanFits x → Shows p z img (held ks (xs ++ ys) ts bs (x .span .page ∷ (x .span .conts ++ sp)))
+    → Shows p z (apply (wholeSpan x) img) (held ks (xs ++ x ∷ ys) ts bs sp)
+unfolding wholeSpan
+whole-span {p} {z} {img} {ks} {ts} {bs} {sp} xs ys x f s =
+    let ns : List ℕ = x .span .page ∷ x .span .conts in
+    let qs : List Piece = beforeSpan p z bs ks xs ++ afterSpan ts bs ys in
+    let h : Holds p img qs (ns ++ sp) = open-spans img (ns ++ sp) xs [] ys s in
+    let inside : (m : ℕ) → count m ns ≤ count m (ns ++ sp) = λ m. (let e : count m (ns ++ sp) ≡ count m ns + count m sp = count-append m ns sp in omega arith) in
+    let w : Wrote p img qs (ns ++ sp) (wholeSpan x) ns (streamBytes spanMark ns (spanStream x))
+    = wrote img qs (ns ++ sp) spanMark ns (spanStream x) (unfold spanMark in refl) inside h in
+    let small : Every (λ n. n < 4294967296) ns = hand-small h ns inside in
+    close-spans (apply (wholeSpan x) img) sp xs (x ∷ []) ys
+    (claim (beforeSpan p z bs ks xs) (afterSpan ts bs ys) (span x) sp
+      (subst₂ (IsSpan x) (sym (head-eq-of-cons-eq (w .bytes))) (sym (tail-eq-of-cons-eq (w .bytes))) (span-borne x f (small .1)))
+      (w .holds))
+
+-- ---- A tower
+
+-- what a tower's page can hold
+pub record TowerFits (x : LinkedTower) : Type 0 where
+  pub maxSmall : x .tower .maxHeight < 65536
+  pub heightSmall : x .tower .height < 65536
+  pub spanSmall : x .spanPage < 4294967296
+  pub few : length (x .nexts) ≤ 252
+  pub nextsSmall : Every (λ n. n < 4294967296) (x .nexts)
+
+abbrev towerBytes : LinkedTower → List ℕ
+towerBytes x = towerMark ++ (word16 (x .tower .maxHeight) ++ (word16 (x .tower .height) ++ (word32 (x .spanPage) ++ gather word32 (x .nexts))))
+
+length-tower : (x : LinkedTower) → length (towerBytes x) ≡ 16 + 4 * length (x .nexts)
+unfolding towerMark word16
+length-tower x = simp length-append (omega (arith, length-word32 (x .spanPage), length-numbers32 (x .nexts)))
+
+tower-borne : (x : LinkedTower) → TowerFits x → IsTower x (padded 1024 (towerBytes x))
+unfolding towerMark word16 word32 be16 be32
+tower-borne x f =
+    record {
+      mark = refl;
+      maxHeight = be16-word16 (x .tower .maxHeight) (f .maxSmall);
+      height = be16-word16 (x .tower .height) (f .heightSmall);
+      spanPage = be32-word32 (x .spanPage) (f .spanSmall);
+      nexts = numbers-mid (x .nexts) (towerMark ++ (word16 (x .tower .maxHeight) ++ (word16 (x .tower .height) ++ word32 (x .spanPage))))
+        (replicate (1024 - length (towerBytes x)) 0) 16 refl (f .nextsSmall);
+    }
+
+-- A tower is written whole to a page in hand
+pub whole-tower : {p z : ℕ} {img : List ℕ} {ks : List SkipList} {xs : List LinkedSpan} {bs : List Block} {sp : List ℕ} (ts us : List LinkedTower) (t : LinkedTower)
+    → TowerFits t → Shows p z img (held ks xs (ts ++ us) bs (t .tower .page ∷ sp))
+    → Shows p z (apply (wholeTower t) img) (held ks xs (ts ++ t ∷ us) bs sp)
+unfolding wholeTower
+whole-tower {p} {z} {img} {ks} {xs} {bs} {sp} ts us t f s =
+    let n : ℕ = t .tower .page in
+    let w : List ℕ = padded 1024 (towerBytes t) in
+    let l : length w ≡ 1024 = length-padded 1024 (towerBytes t) (omega (arith, length-tower t, f .few)) in
+    close-towers (write img n 0 w) sp ts (t ∷ []) us
+    (adopt (beforeTower p z bs ks xs ts) (afterTower bs us) (tower t) sp n w (omega arith) refl
+      (λ pos there. subst (IsTower t) (sym (pg-write-whole img n w pos there l)) (tower-borne t f))
+      (open-towers img (n ∷ sp) ts [] us s))
+
+-- ---- A skip list
+
+-- what a skip list's page can hold
+pub record SkipFits (k : SkipList) : Type 0 where
+  pub firstSmall : k .first < 4294967296
+  pub levelSmall : k .level < 4294967296
+  pub sizeSmall : k .size < 4294967296
+  pub spansSmall : k .spans < 4294967296
+  pub levelsSmall : k .levels < 4294967296
+  pub spanSizeSmall : k .spanSize < 65536
+
+abbrev skipBytes : SkipList → List ℕ
+skipBytes k = skipMark ++ (word32 (k .first) ++ (word32 (k .level) ++ (counts k ++ word16 (k .spanSize))))
+
+length-skip : (k : SkipList) → length (skipBytes k) ≡ 30
+unfolding skipMark counts word16 word32
+length-skip k = refl
+
+skip-borne : (k : SkipList) → SkipFits k → IsSkipList k (padded 1024 (skipBytes k))
+unfolding skipMark counts word16 word32 be16 be32
+skip-borne k f =
+    record {
+      mark = refl;
+      first = be32-word32 (k .first) (f .firstSmall);
+      level = be32-word32 (k .level) (f .levelSmall);
+      size = be32-word32 (k .size) (f .sizeSmall);
+      spans = be32-word32 (k .spans) (f .spansSmall);
+      levels = be32-word32 (k .levels) (f .levelsSmall);
+      spanSize = be16-word16 (k .spanSize) (f .spanSizeSmall);
+    }
+
+-- A skip list is written whole to a page in hand
+pub whole-skip-list : {p z : ℕ} {img : List ℕ} {xs : List LinkedSpan} {ts : List LinkedTower} {bs : List Block} {sp : List ℕ} (ks js : List SkipList) (k : SkipList)
+    → SkipFits k → Shows p z img (held (ks ++ js) xs ts bs (k .page ∷ sp)) → Shows p z (apply (wholeSkipList k) img) (held (ks ++ k ∷ js) xs ts bs sp)
+unfolding wholeSkipList
+whole-skip-list {p} {z} {img} {xs} {ts} {bs} {sp} ks js k f s =
+    let w : List ℕ = padded 1024 (skipBytes k) in
+    let l : length w ≡ 1024 = length-padded 1024 (skipBytes k) (omega (arith, length-skip k)) in
+    close-skips (write img (k .page) 0 w) sp ks (k ∷ []) js
+    (adopt (beforeSkip p z bs ks) (afterSkip xs ts bs js) (skipList k) sp (k .page) w (omega arith) refl
+      (λ pos there. subst (IsSkipList k) (sym (pg-write-whole img (k .page) w pos there l)) (skip-borne k f))
+      (open-skips img (k .page ∷ sp) ks [] js s))

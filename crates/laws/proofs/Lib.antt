@@ -20,4 +20,5 @@ pub mod Opens
 pub mod Written
 pub mod Edits
 pub mod Encodes
+pub mod Draws
 pub mod Remembers
