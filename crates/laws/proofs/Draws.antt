@@ -14,7 +14,7 @@ use Rattle.blockfile.specs.Layout.{Block, freeCount}
 use Rattle.blockfile.specs.Order.{Within}
 use Rattle.blockfile.specs.Fields.{SkipList, LinkedSpan, LinkedTower}
 use Rattle.blockfile.specs.WellFormed.{Piece, superblock, block, freePage, freePieces, firstBlock, count}
-use Rattle.blockfile.specs.Free.{Drawn, takeFrom, takePage, listPage, newBlock, givePage, takeMany, giveMany, draw}
+use Rattle.blockfile.specs.Free.{Drawn, takeFrom, takePage, listPage, newBlock, givePage, takeMany, giveMany, andThen, draw}
 use Rattle.laws.proofs.Count.{count-here, count-append}
 use Rattle.laws.proofs.Numbers.{length-word32}
 use Rattle.laws.proofs.Pages.{be32-write-same}
@@ -35,12 +35,12 @@ blockOf n ws = record { page = n; listed = ws }
 
 -- ---- Where a listed page stands among the pieces
 
-around : (as : List Piece) (q : Piece) (ws : List ℕ) (x : ℕ) (fs : List Piece)
-    → as ++ (q ∷ (map freePage (ws ++ x ∷ []) ++ fs)) ≡ (as ++ (q ∷ map freePage ws)) ++ (freePage x ∷ fs)
-around as q ws x fs = simp (map-append, append-assoc)
+around : (top : List Piece) (q : Piece) (ws : List ℕ) (x : ℕ) (fs : List Piece)
+    → top ++ (q ∷ (map freePage (ws ++ x ∷ []) ++ fs)) ≡ (top ++ (q ∷ map freePage ws)) ++ (freePage x ∷ fs)
+around top q ws x fs = simp (map-append, append-assoc)
 
-behind : (as : List Piece) (q : Piece) (ws : List ℕ) (fs : List Piece) → as ++ (q ∷ (map freePage ws ++ fs)) ≡ (as ++ (q ∷ map freePage ws)) ++ fs
-behind as q ws fs = simp append-assoc
+behind : (top : List Piece) (q : Piece) (ws : List ℕ) (fs : List Piece) → top ++ (q ∷ (map freePage ws ++ fs)) ≡ (top ++ (q ∷ map freePage ws)) ++ fs
+behind top q ws fs = simp append-assoc
 
 -- the first block's page is a page of the image, or 0
 first-small : {p : ℕ} {img sp : List ℕ} (qs : List Piece) (bs : List Block) → Holds p img (qs ++ freePieces bs) sp → firstBlock bs < 4294967296
@@ -62,10 +62,9 @@ point {p} {f} {z} {img} qs v l h =
 
 -- ---- Taking and giving back one page
 
--- what comes out of taking and giving back: the image bears the free list after it
-pub record Draws (p z : ℕ) (img : List ℕ) (things : List Piece) (d : Drawn) (spare : List ℕ) : Type 0 where
-  pub holds : Holds p (apply (d .writes) img) (allPieces p z things (d .free)) spare
-  pub few : Few (d .free)
+-- after what is written the image holds these things and the free list after it
+abbrev pub Draws : (p z : ℕ) (img : List ℕ) (things : List Piece) → Drawn → (spare : List ℕ) → Type 0
+Draws p z img things d sp = Holds p (apply (d .writes) img) (allPieces p z things (d .free)) sp
 
 module _ (p z : ℕ) (things : List Piece) (img sp : List ℕ) where
   -- the first block lists a page
@@ -93,18 +92,14 @@ module _ (p z : ℕ) (things : List Piece) (img sp : List ℕ) where
 
   take-cases : (n : ℕ) (ws : List ℕ) (c : ℕ) (bs : List Block) → length ws ≡ c → Few (blockOf n ws ∷ bs)
       → Holds p img (allPieces p z things (blockOf n ws ∷ bs)) sp → Draws p z img things (takeFrom n ws c bs) (takeFrom n ws c bs .pages ++ sp)
-  take-cases n [] zero bs e f h = record { holds = take-empty n bs h; few = f .1 }
+  take-cases n [] zero bs e f h = take-empty n bs h
   take-cases n (w ∷ ws) zero bs e f h = absurd (omega arith)
   take-cases n ws (suc c) bs e f h =
       let l : length (take c ws) ≡ c = rw length-take (omega arith) in
       let q : ws ≡ take c ws ++ getD ws c 0 ∷ [] = sym (take-all (suc c) ws (omega arith)) ∙ take-suc ws c 0 (omega arith) in
       let few : length ws ≤ 252 = f .0 in
-      record {
-        holds = subst (λ (k : ℕ). Holds p (write img n 12 (word32 k)) (allPieces p z things (blockOf n (take c ws) ∷ bs)) (getD ws c 0 ∷ sp)) l
-          (take-listed n (take c ws) (getD ws c 0) bs (omega arith)
-            (subst (λ (r : List ℕ). Holds p img (allPieces p z things (blockOf n r ∷ bs)) sp) q h));
-        few = (omega arith, f .1);
-      }
+      subst (λ (k : ℕ). Holds p (write img n 12 (word32 k)) (allPieces p z things (blockOf n (take c ws) ∷ bs)) (getD ws c 0 ∷ sp)) l
+      (take-listed n (take c ws) (getD ws c 0) bs (omega arith) (subst (λ (r : List ℕ). Holds p img (allPieces p z things (blockOf n r ∷ bs)) sp) q h))
 
   -- a page is taken
   pub take-one : (b : Block) (bs : List Block) → Few (b ∷ bs) → Holds p img (allPieces p z things (b ∷ bs)) sp
@@ -113,25 +108,22 @@ module _ (p z : ℕ) (things : List Piece) (img sp : List ℕ) where
 
   module _ (x : ℕ) where
     -- the page x in hand becomes the first block
-    give-new : (bs : List Block) → Few bs → Holds p img (allPieces p z things bs) (x ∷ sp) → Draws p z img things (newBlock x bs) sp
+    give-new : (bs : List Block) → Holds p img (allPieces p z things bs) (x ∷ sp) → Draws p z img things (newBlock x bs) sp
     unfolding blockMark word32
-    give-new bs f h =
+    give-new bs h =
         let n : ℕ = firstBlock bs in
         let top : List Piece = superblock p n z ∷ things in
         let c : count x (x ∷ sp) ≡ 1 + count x sp = count-here x sp in
         let r : Within 1 p x = in-range h x (omega arith) in
         let nsmall : n < 4294967296 = first-small top bs h in
-        record {
-          holds = point (things ++ (block (blockOf x []) n ∷ freePieces bs)) x (omega (arith, h .pages .1))
-            (adopt top (freePieces bs) (block (blockOf x []) n) sp x (blockMark ++ (word32 n ++ word32 0)) (lit≤ tt) refl
-              (λ pos there. block-new img x pos there n nsmall) h);
-          few = (lit≤ tt, f);
-        }
+        point (things ++ (block (blockOf x []) n ∷ freePieces bs)) x (omega (arith, h .pages .1))
+        (adopt top (freePieces bs) (block (blockOf x []) n) sp x (blockMark ++ (word32 n ++ word32 0)) (lit≤ tt) refl
+          (λ pos there. block-new img x pos there n nsmall) h)
 
     -- the page x in hand is marked free and listed in the first block
-    give-listed : (n : ℕ) (ws : List ℕ) (bs : List Block) → length ws < 252 → Few bs → Holds p img (allPieces p z things (blockOf n ws ∷ bs)) (x ∷ sp)
+    give-listed : (n : ℕ) (ws : List ℕ) (bs : List Block) → length ws < 252 → Holds p img (allPieces p z things (blockOf n ws ∷ bs)) (x ∷ sp)
         → Draws p z img things (listPage x (blockOf n ws) bs) sp
-    give-listed n ws bs low f h = record { holds = h3; few = (rw length-append (omega arith), f) }
+    give-listed n ws bs low h = h3
       where
         o : ℕ
         o = 16 + 4 * length ws
@@ -187,10 +179,162 @@ module _ (p z : ℕ) (things : List Piece) (img sp : List ℕ) where
             (λ pos there k b. block-more img2 n pos there ws x (omega arith) stands b) h2
 
     -- a page is given back
-    pub give-one : (bs : List Block) → Few bs → Holds p img (allPieces p z things bs) (x ∷ sp) → Draws p z img things (givePage x bs) sp
-    give-one [] f h = give-new [] f h
-    give-one (b ∷ bs) f h = go (ltb (length (b .listed)) 252) refl
+    pub give-one : (bs : List Block) → Holds p img (allPieces p z things bs) (x ∷ sp) → Draws p z img things (givePage x bs) sp
+    give-one [] h = give-new [] h
+    give-one (b ∷ bs) h = go (ltb (length (b .listed)) 252) refl
       where
         go : (t : Bool) → ltb (length (b .listed)) 252 ≡ t → Draws p z img things (cond t (listPage x b bs) (newBlock x (b ∷ bs))) sp
-        go true e = give-listed (b .page) (b .listed) bs (ltb-true (length (b .listed)) 252 e) (f .1) h
-        go false e = give-new (b ∷ bs) f h
+        go true e = give-listed (b .page) (b .listed) bs (ltb-true (length (b .listed)) 252 e) h
+        go false e = give-new (b ∷ bs) h
+
+-- ---- How many pages, and how many a block lists
+
+take-cases-few : (n : ℕ) (ws : List ℕ) (c : ℕ) (bs : List Block) → Few (blockOf n ws ∷ bs) → Few (takeFrom n ws c bs .free)
+take-cases-few n ws zero bs f = f .1
+take-cases-few n ws (suc c) bs f = (rw length-take (omega (arith, f .0)), f .1)
+
+take-cases-left : (n : ℕ) (ws : List ℕ) (c : ℕ) (bs : List Block) → length ws ≡ c → suc (freeCount (takeFrom n ws c bs .free)) ≡ 1 + length ws + freeCount bs
+unfolding freeCount
+take-cases-left n ws zero bs e = omega arith
+take-cases-left n ws (suc c) bs e = let l : length (take c ws) ≡ c = rw length-take (omega arith) in omega arith
+
+take-cases-one : (n : ℕ) (ws : List ℕ) (c : ℕ) (bs : List Block) → length (takeFrom n ws c bs .pages) ≡ 1
+take-cases-one n ws zero bs = refl
+take-cases-one n ws (suc c) bs = refl
+
+pub few-taken : (n : ℕ) (bs : List Block) → Few bs → Few (takeMany n bs .free)
+few-taken zero bs f = f
+few-taken (suc n) [] f = few-taken n [] f
+few-taken (suc n) (b ∷ bs) f = few-taken n (takePage (b ∷ bs) .free) (take-cases-few (b .page) (b .listed) (length (b .listed)) bs f)
+
+-- as many pages as are taken come out, and the free list is that much shorter
+pub length-taken : (n : ℕ) (bs : List Block) → n ≤ freeCount bs → length (takeMany n bs .pages) ≡ n
+unfolding freeCount
+length-taken zero bs h = refl
+length-taken (suc n) [] h = absurd (omega arith)
+length-taken (suc n) (b ∷ bs) h =
+    let l : suc (freeCount (takePage (b ∷ bs) .free)) ≡ 1 + length (b .listed) + freeCount bs
+    = take-cases-left (b .page) (b .listed) (length (b .listed)) bs refl in
+    length-append (takePage (b ∷ bs) .pages) (takeMany n (takePage (b ∷ bs) .free) .pages)
+    ∙ omega (arith, take-cases-one (b .page) (b .listed) (length (b .listed)) bs, length-taken n (takePage (b ∷ bs) .free) (omega arith))
+
+pub left-taken : (n : ℕ) (bs : List Block) → n ≤ freeCount bs → freeCount (takeMany n bs .free) + n ≡ freeCount bs
+unfolding freeCount
+left-taken zero bs h = omega arith
+left-taken (suc n) [] h = absurd (omega arith)
+left-taken (suc n) (b ∷ bs) h =
+    let l : suc (freeCount (takePage (b ∷ bs) .free)) ≡ 1 + length (b .listed) + freeCount bs
+    = take-cases-left (b .page) (b .listed) (length (b .listed)) bs refl in
+    omega (arith, left-taken n (takePage (b ∷ bs) .free) (omega arith))
+
+-- what giving back one page does to the list
+pub record Gives (x : ℕ) (bs : List Block) (d : Drawn) : Type 0 where
+  pub none : d .pages ≡ []
+  pub few : Few bs → Few (d .free)
+  pub left : freeCount (d .free) ≡ 1 + freeCount bs
+
+gives : (x : ℕ) (bs : List Block) → Gives x bs (givePage x bs)
+unfolding freeCount
+gives x [] = record { none = refl; few = λ f. (lit≤ tt, f); left = refl }
+gives x (b ∷ bs) = go (ltb (length (b .listed)) 252) refl
+  where
+    go : (t : Bool) → ltb (length (b .listed)) 252 ≡ t → Gives x (b ∷ bs) (cond t (listPage x b bs) (newBlock x (b ∷ bs)))
+    go true e =
+        let low : length (b .listed) < 252 = ltb-true (length (b .listed)) 252 e in
+        record { none = refl; few = λ f. (rw length-append (omega arith), f .1); left = rw length-append (omega arith) }
+    go false e = record { none = refl; few = λ f. (lit≤ tt, f); left = omega arith }
+
+pub few-given : (xs : List ℕ) (bs : List Block) → Few bs → Few (giveMany xs bs .free)
+few-given [] bs f = f
+few-given (x ∷ xs) bs f = few-given xs (givePage x bs .free) (gives x bs .few f)
+
+pub none-given : (xs : List ℕ) (bs : List Block) → giveMany xs bs .pages ≡ []
+none-given [] bs = refl
+none-given (x ∷ xs) bs = rw (gives x bs .none) (none-given xs (givePage x bs .free))
+
+pub left-given : (xs : List ℕ) (bs : List Block) → freeCount (giveMany xs bs .free) ≡ length xs + freeCount bs
+left-given [] bs = omega arith
+left-given (x ∷ xs) bs = omega (arith, left-given xs (givePage x bs .free), gives x bs .left)
+
+-- ---- Several pages
+
+module _ (p z : ℕ) (things : List Piece) where
+  then-draws : (img : List ℕ) (d : Drawn) (f : List Block → Drawn) (sp : List ℕ) → Draws p z (apply (d .writes) img) things (f (d .free)) sp
+      → Draws p z img things (andThen d f) sp
+  then-draws img d f sp h =
+      subst (λ (i : List ℕ). Holds p i (allPieces p z things (f (d .free) .free)) sp) (sym (apply-append (d .writes) (f (d .free) .writes) img)) h
+
+  pub take-many : (n : ℕ) (img sp : List ℕ) (bs : List Block) → Few bs → n ≤ freeCount bs → Holds p img (allPieces p z things bs) sp
+      → Draws p z img things (takeMany n bs) (takeMany n bs .pages ++ sp)
+  unfolding freeCount
+  take-many zero img sp bs f l h = h
+  take-many (suc n) img sp [] f l h = absurd (omega arith)
+  take-many (suc n) img sp (b ∷ bs) f l h =
+      let d : Drawn = takePage (b ∷ bs) in
+      let e : List ℕ = takeMany n (d .free) .pages in
+      let k : suc (freeCount (d .free)) ≡ 1 + length (b .listed) + freeCount bs = take-cases-left (b .page) (b .listed) (length (b .listed)) bs refl in
+      then-draws img d (takeMany n) ((d .pages ++ e) ++ sp)
+      (in-hand ((d .pages ++ e) ++ sp) (λ m. regroup m (d .pages) e sp)
+        (take-many n (apply (d .writes) img) (d .pages ++ sp) (d .free) (few-taken 1 (b ∷ bs) f) (omega arith) (take-one p z things img sp b bs f h)))
+    where
+      regroup : (m : ℕ) (xs ys zs : List ℕ) → count m ((xs ++ ys) ++ zs) ≡ count m (ys ++ (xs ++ zs))
+      regroup m xs ys zs = simp count-append (omega arith)
+
+  pub give-many : (xs img sp : List ℕ) (bs : List Block) → Holds p img (allPieces p z things bs) (xs ++ sp) → Draws p z img things (giveMany xs bs) sp
+  give-many [] img sp bs h = h
+  give-many (x ∷ xs) img sp bs h =
+      then-draws img (givePage x bs) (giveMany xs) sp
+      (give-many xs (apply (givePage x bs .writes) img) sp (givePage x bs .free) (give-one p z things img (xs ++ sp) x bs h))
+
+-- ---- Drawing
+
+-- the old pages that are left over, and those gone, come back behind the pages that are drawn
+shared : (m w : ℕ) (old gone rest taken : List ℕ)
+    → count m ((drop w old ++ gone) ++ ((take w old ++ (taken ++ [])) ++ rest)) ≡ count m (taken ++ (old ++ (gone ++ rest)))
+shared m w old gone rest taken =
+    let c : count m old ≡ count m (take w old) + count m (drop w old)
+    = ap (count m) (sym (take-append-drop w old)) ∙ count-append m (take w old) (drop w old) in
+    simp count-append (omega arith)
+
+module _ (old : List ℕ) (wanted : ℕ) (gone : List ℕ) (bs : List Block) (room : wanted ≤ length old + freeCount bs) where
+  -- as many pages are drawn as are wanted
+  pub length-drawn : length (draw old wanted gone bs .pages) ≡ wanted
+  unfolding draw
+  length-drawn =
+      let t : Drawn = takeMany (wanted - length old) bs in
+      let g : List ℕ = giveMany (drop wanted old ++ gone) (t .free) .pages in
+      length-append (take wanted old) (t .pages ++ g) ∙ ap (λ (k : ℕ). length (take wanted old) + k) (length-append (t .pages) g)
+      ∙ omega (arith, length-take wanted old, length-taken (wanted - length old) bs (omega arith), ap length (none-given (drop wanted old ++ gone) (t .free)))
+
+  -- pages old and gone are free after it, those wanted are not
+  pub left-drawn : freeCount (draw old wanted gone bs .free) + wanted ≡ freeCount bs + length old + length gone
+  unfolding draw
+  left-drawn =
+      let t : Drawn = takeMany (wanted - length old) bs in
+      omega (arith, left-given (drop wanted old ++ gone) (t .free), length-append (drop wanted old) gone, length-drop wanted old,
+        left-taken (wanted - length old) bs (omega arith))
+
+  -- blocks list at most 252 pages if they did
+  pub few-drawn : Few bs → Few (draw old wanted gone bs .free)
+  unfolding draw
+  few-drawn f = few-given (drop wanted old ++ gone) (takeMany (wanted - length old) bs .free) (few-taken (wanted - length old) bs f)
+
+  module _ {p z : ℕ} {img : List ℕ} {ks : List SkipList} {xs : List LinkedSpan} {ts : List LinkedTower} where
+    -- what drawing writes: the old pages and those gone were in hand, the pages drawn are in hand
+    pub drawn-shows : (rest : List ℕ) → Few bs → Shows p z img (held ks xs ts bs (old ++ (gone ++ rest)))
+        → Shows p z (apply (draw old wanted gone bs .writes) img) (held ks xs ts (draw old wanted gone bs .free) (draw old wanted gone bs .pages ++ rest))
+    unfolding draw
+    drawn-shows rest f s =
+        let q : List Piece = thingPieces ks xs ts in
+        let k : ℕ = wanted - length old in
+        let t : Drawn = takeMany k bs in
+        let left : List ℕ = drop wanted old ++ gone in
+        let g : List ℕ = giveMany left (t .free) .pages in
+        let out : List ℕ = (take wanted old ++ (t .pages ++ g)) ++ rest in
+        let h1 : Holds p (apply (t .writes) img) (allPieces p z q (t .free)) (t .pages ++ (old ++ (gone ++ rest)))
+        = take-many p z q k img (old ++ (gone ++ rest)) bs f (omega arith) (to-pieces p z ks xs ts bs (old ++ (gone ++ rest)) img s) in
+        let same : (m : ℕ) → count m (left ++ out) ≡ count m (t .pages ++ (old ++ (gone ++ rest)))
+        = λ m. ap (λ (r : List ℕ). count m (left ++ ((take wanted old ++ (t .pages ++ r)) ++ rest))) (none-given left (t .free)) ∙ shared m wanted old gone rest (t .pages) in
+        let d : Drawn = andThen t (giveMany left) in
+        from-pieces p z ks xs ts (d .free) out (apply (d .writes) img)
+        (then-draws p z q img t (giveMany left) out (give-many p z q left (apply (t .writes) img) out (t .free) (in-hand (left ++ out) same h1)))
