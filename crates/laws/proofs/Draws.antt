@@ -3,12 +3,12 @@ use Prim.Native.Nat.{ℕ, zero, suc, _+_, _*_, _-_, _<_, _≤_}
 use native.Mathlib.Omega.{arith}
 use mathlib.Core.Path.{_≡_, refl, ap, sym, _∙_, subst}
 use mathlib.Core.Bool.{Bool, true, false, cond}
-use mathlib.Core.List.{List, [], _∷_, _++_, map, append-assoc, append-nil, map-append}
+use mathlib.Core.List.{List, [], _∷_, _++_, map, append-assoc, map-append}
 use lib.ListN.{length, getD, take, drop, length-append, length-take, length-drop, take-append-drop}
 use lib.Seq.{take-suc, take-all}
 use lib.Dec.{lit<, lit≤, ltb}
 use borrow.Author.Tests.{ltb-true}
-use Rattle.blockfile.specs.Bytes.{pg, write, be32, word32, Write, apply, Every}
+use Rattle.blockfile.specs.Bytes.{pg, write, be32, word32, apply, Every}
 use Rattle.blockfile.specs.Marks.{blockMark, freeMark}
 use Rattle.blockfile.specs.Layout.{Block, freeCount}
 use Rattle.blockfile.specs.Order.{Within}
@@ -21,7 +21,7 @@ use Rattle.laws.proofs.Pages.{be32-write-same}
 use Rattle.laws.proofs.Writes.{apply-append}
 use Rattle.laws.proofs.Owned.{ownedBy}
 use Rattle.laws.proofs.State.{Shows}
-use Rattle.laws.proofs.Steps.{Holds, in-range, lies-in, in-hand, release, adopt, edit, count-three}
+use Rattle.laws.proofs.Steps.{Holds, in-range, lies-in, piece-owned, piece-within, in-hand, release, adopt, edit}
 use Rattle.laws.proofs.Opens.{held, thingPieces, allPieces, to-pieces, from-pieces}
 use Rattle.laws.proofs.Written.{super-free, block-less, block-beyond, block-more, block-new, free-new}
 
@@ -46,11 +46,8 @@ behind top q ws fs = simp append-assoc
 first-small : {p : ℕ} {img sp : List ℕ} (qs : List Piece) (bs : List Block) → Holds p img (qs ++ freePieces bs) sp → firstBlock bs < 4294967296
 first-small qs [] h = lit< tt
 first-small {p} {img} {sp} qs (b ∷ bs) h =
-    let rest : List Piece = map freePage (b .listed) ++ freePieces bs in
-    let c : count (b .page) (ownedBy (qs ++ (block b (firstBlock bs) ∷ rest)))
-        ≡ count (b .page) (ownedBy qs) + (count (b .page) (b .page ∷ []) + count (b .page) (ownedBy rest)) = count-three (b .page) qs (block b (firstBlock bs) ∷ []) rest in
-    let e : count (b .page) (b .page ∷ []) ≡ 1 + 0 = count-here (b .page) [] in
-    let r : Within 1 p (b .page) = in-range h (b .page) (omega arith) in
+    let r : Within 1 p (b .page)
+    = piece-within qs (map freePage (b .listed) ++ freePieces bs) (block b (firstBlock bs)) (b .page) [] refl h in
     omega (arith, h .pages .1)
 
 -- the superblock points to another first block
@@ -77,10 +74,10 @@ module _ (p z : ℕ) (things : List Piece) (img sp : List ℕ) where
       let b : Piece = block (blockOf n ws) (firstBlock bs) in
       let h1 : Holds p (write img n 12 w) (top ++ (b ∷ (map freePage (ws ++ x ∷ []) ++ freePieces bs))) sp
       = edit top (map freePage (ws ++ x ∷ []) ++ freePieces bs) (block (blockOf n (ws ++ x ∷ [])) (firstBlock bs)) b n 12 [] w
-        (omega (arith, length-word32 (length ws))) refl refl (λ pos there k i. block-less img n pos there ws x small i) h in
+      (omega (arith, length-word32 (length ws))) refl refl (λ pos there k i. block-less img n pos there ws x small i) h in
       subst (λ (l : List Piece). Holds p (write img n 12 w) l (x ∷ sp)) (sym (behind top b ws (freePieces bs)))
       (release (top ++ (b ∷ map freePage ws)) (freePieces bs) (freePage x) sp
-        (subst (λ (l : List Piece). Holds p (write img n 12 w) l sp) (around top b ws x (freePieces bs)) h1))
+      (subst (λ (l : List Piece). Holds p (write img n 12 w) l sp) (around top b ws x (freePieces bs)) h1))
 
   -- the first block lists none: it goes itself
   take-empty : (n : ℕ) (bs : List Block) → Holds p img (allPieces p z things (blockOf n [] ∷ bs)) sp
@@ -118,7 +115,7 @@ module _ (p z : ℕ) (things : List Piece) (img sp : List ℕ) where
         let nsmall : n < 4294967296 = first-small top bs h in
         point (things ++ (block (blockOf x []) n ∷ freePieces bs)) x (omega (arith, h .pages .1))
         (adopt top (freePieces bs) (block (blockOf x []) n) sp x (blockMark ++ (word32 n ++ word32 0)) (lit≤ tt) refl
-          (λ pos there. block-new img x pos there n nsmall) h)
+        (λ pos there. block-new img x pos there n nsmall) h)
 
     -- the page x in hand is marked free and listed in the first block
     give-listed : (n : ℕ) (ws : List ℕ) (bs : List Block) → length ws < 252 → Holds p img (allPieces p z things (blockOf n ws ∷ bs)) (x ∷ sp)
@@ -150,14 +147,7 @@ module _ (p z : ℕ) (things : List Piece) (img sp : List ℕ) where
         h1 =
             subst (λ (l : List Piece). Holds p img1 l sp) (sym (around top (lists ws) ws x (freePieces bs)))
             (adopt (top ++ (lists ws ∷ map freePage ws)) (freePieces bs) (freePage x) sp x freeMark (unfold freeMark in (lit≤ tt)) refl
-              (λ pos there. free-new img x pos there) (subst (λ (l : List Piece). Holds p img l (x ∷ sp)) (behind top (lists ws) ws (freePieces bs)) h))
-
-        inside : 1 ≤ count n (ownedBy (top ++ (lists ws ∷ rest))) + count n sp
-        inside =
-            let c : count n (ownedBy (top ++ (lists ws ∷ rest))) ≡ count n (ownedBy top) + (count n (n ∷ []) + count n (ownedBy rest))
-            = count-three n top (lists ws ∷ []) rest in
-            let e : count n (n ∷ []) ≡ 1 + 0 = count-here n [] in
-            omega arith
+            (λ pos there. free-new img x pos there) (subst (λ (l : List Piece). Holds p img l (x ∷ sp)) (behind top (lists ws) ws (freePieces bs)) h))
 
         small : x < 4294967296
         small =
@@ -166,7 +156,9 @@ module _ (p z : ℕ) (things : List Piece) (img sp : List ℕ) where
             omega (arith, h .pages .1)
 
         stands : be32 (pg img2 n) o ≡ x
-        stands = be32-write-same img1 n o x (in-range h1 n inside .0) (lies-in h1 n inside) (omega arith) small
+        stands =
+            let r : 1 ≤ count n (ownedBy (top ++ (lists ws ∷ rest))) = piece-owned top rest (lists ws) n [] refl in
+            be32-write-same img1 n o x (in-range h1 n (omega arith) .0) (lies-in h1 n (omega arith)) (omega arith) small
 
         h2 : Holds p img2 (top ++ (lists ws ∷ rest)) sp
         h2 =
@@ -202,12 +194,13 @@ take-cases-one : (n : ℕ) (ws : List ℕ) (c : ℕ) (bs : List Block) → lengt
 take-cases-one n ws zero bs = refl
 take-cases-one n ws (suc c) bs = refl
 
+-- blocks list at most 252 pages after taking if they did before
 pub few-taken : (n : ℕ) (bs : List Block) → Few bs → Few (takeMany n bs .free)
 few-taken zero bs f = f
 few-taken (suc n) [] f = few-taken n [] f
 few-taken (suc n) (b ∷ bs) f = few-taken n (takePage (b ∷ bs) .free) (take-cases-few (b .page) (b .listed) (length (b .listed)) bs f)
 
--- as many pages as are taken come out, and the free list is that much shorter
+-- as many pages as are taken come out
 pub length-taken : (n : ℕ) (bs : List Block) → n ≤ freeCount bs → length (takeMany n bs .pages) ≡ n
 unfolding freeCount
 length-taken zero bs h = refl
@@ -218,6 +211,7 @@ length-taken (suc n) (b ∷ bs) h =
     length-append (takePage (b ∷ bs) .pages) (takeMany n (takePage (b ∷ bs) .free) .pages)
     ∙ omega (arith, take-cases-one (b .page) (b .listed) (length (b .listed)) bs, length-taken n (takePage (b ∷ bs) .free) (omega arith))
 
+-- and the free list is that much shorter
 pub left-taken : (n : ℕ) (bs : List Block) → n ≤ freeCount bs → freeCount (takeMany n bs .free) + n ≡ freeCount bs
 unfolding freeCount
 left-taken zero bs h = omega arith
@@ -228,30 +222,33 @@ left-taken (suc n) (b ∷ bs) h =
     omega (arith, left-taken n (takePage (b ∷ bs) .free) (omega arith))
 
 -- what giving back one page does to the list
-pub record Gives (x : ℕ) (bs : List Block) (d : Drawn) : Type 0 where
+record Gives (bs : List Block) (d : Drawn) : Type 0 where
   pub none : d .pages ≡ []
   pub few : Few bs → Few (d .free)
   pub left : freeCount (d .free) ≡ 1 + freeCount bs
 
-gives : (x : ℕ) (bs : List Block) → Gives x bs (givePage x bs)
+gives : (x : ℕ) (bs : List Block) → Gives bs (givePage x bs)
 unfolding freeCount
 gives x [] = record { none = refl; few = λ f. (lit≤ tt, f); left = refl }
 gives x (b ∷ bs) = go (ltb (length (b .listed)) 252) refl
   where
-    go : (t : Bool) → ltb (length (b .listed)) 252 ≡ t → Gives x (b ∷ bs) (cond t (listPage x b bs) (newBlock x (b ∷ bs)))
+    go : (t : Bool) → ltb (length (b .listed)) 252 ≡ t → Gives (b ∷ bs) (cond t (listPage x b bs) (newBlock x (b ∷ bs)))
     go true e =
         let low : length (b .listed) < 252 = ltb-true (length (b .listed)) 252 e in
         record { none = refl; few = λ f. (rw length-append (omega arith), f .1); left = rw length-append (omega arith) }
     go false e = record { none = refl; few = λ f. (lit≤ tt, f); left = omega arith }
 
+-- blocks list at most 252 pages after giving back if they did before
 pub few-given : (xs : List ℕ) (bs : List Block) → Few bs → Few (giveMany xs bs .free)
 few-given [] bs f = f
 few-given (x ∷ xs) bs f = few-given xs (givePage x bs .free) (gives x bs .few f)
 
+-- giving back yields no page
 pub none-given : (xs : List ℕ) (bs : List Block) → giveMany xs bs .pages ≡ []
 none-given [] bs = refl
 none-given (x ∷ xs) bs = rw (gives x bs .none) (none-given xs (givePage x bs .free))
 
+-- the free list is longer by what is given back
 pub left-given : (xs : List ℕ) (bs : List Block) → freeCount (giveMany xs bs .free) ≡ length xs + freeCount bs
 left-given [] bs = omega arith
 left-given (x ∷ xs) bs = omega (arith, left-given xs (givePage x bs .free), gives x bs .left)
@@ -264,6 +261,7 @@ module _ (p z : ℕ) (things : List Piece) where
   then-draws img d f sp h =
       subst (λ (i : List ℕ). Holds p i (allPieces p z things (f (d .free) .free)) sp) (sym (apply-append (d .writes) (f (d .free) .writes) img)) h
 
+  -- several pages are taken
   pub take-many : (n : ℕ) (img sp : List ℕ) (bs : List Block) → Few bs → n ≤ freeCount bs → Holds p img (allPieces p z things bs) sp
       → Draws p z img things (takeMany n bs) (takeMany n bs .pages ++ sp)
   unfolding freeCount
@@ -275,11 +273,12 @@ module _ (p z : ℕ) (things : List Piece) where
       let k : suc (freeCount (d .free)) ≡ 1 + length (b .listed) + freeCount bs = take-cases-left (b .page) (b .listed) (length (b .listed)) bs refl in
       then-draws img d (takeMany n) ((d .pages ++ e) ++ sp)
       (in-hand ((d .pages ++ e) ++ sp) (λ m. regroup m (d .pages) e sp)
-        (take-many n (apply (d .writes) img) (d .pages ++ sp) (d .free) (few-taken 1 (b ∷ bs) f) (omega arith) (take-one p z things img sp b bs f h)))
+      (take-many n (apply (d .writes) img) (d .pages ++ sp) (d .free) (few-taken 1 (b ∷ bs) f) (omega arith) (take-one p z things img sp b bs f h)))
     where
       regroup : (m : ℕ) (xs ys zs : List ℕ) → count m ((xs ++ ys) ++ zs) ≡ count m (ys ++ (xs ++ zs))
       regroup m xs ys zs = simp count-append (omega arith)
 
+  -- several pages in hand are given back
   pub give-many : (xs img sp : List ℕ) (bs : List Block) → Holds p img (allPieces p z things bs) (xs ++ sp) → Draws p z img things (giveMany xs bs) sp
   give-many [] img sp bs h = h
   give-many (x ∷ xs) img sp bs h =
@@ -296,6 +295,11 @@ shared m w old gone rest taken =
     = ap (count m) (sym (take-append-drop w old)) ∙ count-append m (take w old) (drop w old) in
     simp count-append (omega arith)
 
+-- blocks list at most 252 pages after drawing if they did before
+pub few-drawn : (old : List ℕ) (wanted : ℕ) (gone : List ℕ) (bs : List Block) → Few bs → Few (draw old wanted gone bs .free)
+unfolding draw
+few-drawn old wanted gone bs f = few-given (drop wanted old ++ gone) (takeMany (wanted - length old) bs .free) (few-taken (wanted - length old) bs f)
+
 module _ (old : List ℕ) (wanted : ℕ) (gone : List ℕ) (bs : List Block) (room : wanted ≤ length old + freeCount bs) where
   -- as many pages are drawn as are wanted
   pub length-drawn : length (draw old wanted gone bs .pages) ≡ wanted
@@ -311,13 +315,13 @@ module _ (old : List ℕ) (wanted : ℕ) (gone : List ℕ) (bs : List Block) (ro
   unfolding draw
   left-drawn =
       let t : Drawn = takeMany (wanted - length old) bs in
-      omega (arith, left-given (drop wanted old ++ gone) (t .free), length-append (drop wanted old) gone, length-drop wanted old,
-        left-taken (wanted - length old) bs (omega arith))
-
-  -- blocks list at most 252 pages if they did
-  pub few-drawn : Few bs → Few (draw old wanted gone bs .free)
-  unfolding draw
-  few-drawn f = few-given (drop wanted old ++ gone) (takeMany (wanted - length old) bs .free) (few-taken (wanted - length old) bs f)
+      omega (
+        arith,
+        left-given (drop wanted old ++ gone) (t .free),
+        length-append (drop wanted old) gone,
+        length-drop wanted old,
+        left-taken (wanted - length old) bs (omega arith),
+      )
 
   module _ {p z : ℕ} {img : List ℕ} {ks : List SkipList} {xs : List LinkedSpan} {ts : List LinkedTower} where
     -- what drawing writes: the old pages and those gone were in hand, the pages drawn are in hand

@@ -1,63 +1,28 @@
 -- Pages written whole: what is encoded is read back.
-use Prim.Native.Nat.{ℕ, zero, suc, _+_, _*_, _-_, _/_, _<_, _≤_}
+use Prim.Native.Nat.{ℕ, suc, _+_, _*_, _-_, _/_, _<_, _≤_}
 use native.Mathlib.Omega.{arith}
 use native.Mathlib.Nat.{add-zero}
 use native.Mathlib.Decide.{decLt}
 use mathlib.Core.Path.{_≡_, refl, ap, ap₂, sym, _∙_, subst, subst₂}
 use mathlib.Core.Logic.{by-cases}
 use mathlib.Core.List.{List, [], _∷_, _++_, map, append-assoc, append-nil, head-eq-of-cons-eq, tail-eq-of-cons-eq}
-use lib.ListN.{
-  length,
-  getD,
-  take,
-  drop,
-  replicate,
-  length-append,
-  length-replicate,
-  length-take,
-  length-drop,
-  take-append-drop,
-  drop-of-length-le,
-  replicate-append-replicate,
-}
+use lib.ListN.{length, take, drop, replicate, length-append, length-replicate, length-take, length-drop, take-append-drop, drop-of-length-le, replicate-append-replicate}
 use lib.Seq.{slice, take-at, drop-at, take-all}
-use lib.Dec.{lit<, lit≤}
+use lib.Dec.{lit<}
 use Rattle.blockfile.specs.Bytes.{pg, write, be16, be32, word16, word32, Write, apply, Every, gather, firstOf, padded}
 use Rattle.blockfile.specs.Marks.{skipMark, towerMark, spanMark, contMark}
-use Rattle.blockfile.specs.Layout.{Entry, Span, Block, entriesFrom, lensAt, entryEnd, entriesEnd, reached}
+use Rattle.blockfile.specs.Layout.{Entry, Block, entriesFrom, lensAt, entryEnd, entriesEnd, reached}
 use Rattle.blockfile.specs.Fields.{SkipList, LinkedSpan, LinkedTower, IsSkipList, IsTower, IsSpan, Numbers, EntriesAt, AreConts}
 use Rattle.blockfile.specs.WellFormed.{Piece, skipList, tower, span, count}
 use Rattle.blockfile.specs.Encode.{entriesBytes, streamPages, wholeSpan, wholeTower, counts, wholeSkipList}
 use Rattle.laws.proofs.Count.{count-here, count-append, not-first}
-use Rattle.laws.proofs.Numbers.{
-  be16-left,
-  be32-left,
-  be16-right,
-  be32-right,
-  be16-word16,
-  be32-word32,
-  length-word16,
-  length-word32,
-}
+use Rattle.laws.proofs.Numbers.{be16-left, be32-left, be16-right, be32-right, be16-word16, be32-word32, length-word16, length-word32}
 use Rattle.laws.proofs.Pages.{pg-write-whole, pg-write-other, length-padded}
 use Rattle.laws.proofs.Positions.{lens-after}
 use Rattle.laws.proofs.State.{Shows}
 use Rattle.laws.proofs.Steps.{Holds, in-range, lies-in, at-most-once, hand-small, claim, scribble, adopt}
 use Rattle.laws.proofs.Opens.{held}
-use Rattle.laws.proofs.Edits.{
-  beforeSpan,
-  afterSpan,
-  beforeTower,
-  afterTower,
-  beforeSkip,
-  afterSkip,
-  open-spans,
-  close-spans,
-  open-towers,
-  close-towers,
-  open-skips,
-  close-skips,
-}
+use Rattle.laws.proofs.Edits.{beforeSpan, afterSpan, beforeTower, afterTower, beforeSkip, afterSkip, open-spans, close-spans, open-towers, close-towers, open-skips, close-skips}
 
 -- ---- In the middle of a list
 
@@ -77,11 +42,10 @@ slice-mid p m q f t e g =
 numbers-mid : (ns p q : List ℕ) (k : ℕ) → length p ≡ k → Every (λ n. n < 4294967296) ns → Numbers (p ++ (gather word32 ns ++ q)) k ns
 numbers-mid [] p q k e h = tt
 numbers-mid (n ∷ ns) p q k e h =
-    let w : p ++ ((word32 n ++ gather word32 ns) ++ q) ≡ p ++ (word32 n ++ (gather word32 ns ++ q)) = ap (λ (l : List ℕ). p ++ l) (append-assoc (word32 n) (gather word32 ns) q) in
-    (
+    let w : p ++ ((word32 n ++ gather word32 ns) ++ q) ≡ p ++ (word32 n ++ (gather word32 ns ++ q)) = ap (λ (l : List ℕ). p ++ l) (append-assoc (word32 n) (gather word32 ns) q) in (
       ap (λ (l : List ℕ). be32 l k) w ∙ be32-mid p (gather word32 ns ++ q) k n e (h .0),
       subst (λ (l : List ℕ). Numbers l (k + 4) ns) (sym (w ∙ sym (append-assoc p (word32 n) (gather word32 ns ++ q))))
-      (numbers-mid ns (p ++ word32 n) q (k + 4) (length-append p (word32 n) ∙ omega (arith, length-word32 n)) (h .1)),
+          (numbers-mid ns (p ++ word32 n) q (k + 4) (length-append p (word32 n) ∙ omega (arith, length-word32 n)) (h .1)),
     )
 
 length-numbers32 : (ns : List ℕ) → length (gather word32 ns) ≡ 4 * length ns
@@ -102,7 +66,7 @@ encode-read (x ∷ xs) v p q e o = (
   ap (λ (s : List ℕ). be16 s (lensAt v)) w1 ∙ be16-mid p1 (vl ++ (x .key ++ (x .value ++ more))) (lensAt v) (length (x .key)) n1 (omega (arith, o .0 .0)),
   ap (λ (s : List ℕ). be16 s (lensAt v + 2)) w2 ∙ be16-mid p2 (x .key ++ (x .value ++ more)) (lensAt v + 2) (length (x .value)) n2 (omega (arith, o .0 .1)),
   ap (slice (lensAt v + 4) (lensAt v + 4 + length (x .key))) w3
-  ∙ slice-mid p3 (x .key) (x .value ++ more) (lensAt v + 4) (lensAt v + 4 + length (x .key)) n3 refl,
+      ∙ slice-mid p3 (x .key) (x .value ++ more) (lensAt v + 4) (lensAt v + 4 + length (x .key)) n3 refl,
   ap (slice (lensAt v + 4 + length (x .key)) (entryEnd v x)) w4 ∙ slice-mid p4 (x .value) more (lensAt v + 4 + length (x .key)) (entryEnd v x) n4 refl,
   subst (λ (s : List ℕ). EntriesAt s (entryEnd v x) xs) (sym w5) (encode-read xs (entryEnd v x) p5 q n5 (o .1)),
 )
@@ -277,8 +241,8 @@ module _ (x : LinkedSpan) (fits : SpanFits x) (small : Every (λ n. n < 42949672
         size = be16-word16 (length (x .span .entries)) (omega (arith, fits .sizeSmall));
         conts = conts-borne (x .span .conts) (drop 1016 (spanStream x)) small;
         entries = subst (λ (s : List ℕ). EntriesAt s 12 (x .span .entries))
-          (sym (join-stream spanMark (x .span .page ∷ x .span .conts) (spanStream x) refl length-stream))
-          (encode-read (x .span .entries) 12 (word32 (x .prev) ++ (word32 (x .next) ++ (word16 (x .maxKeys) ++ word16 (length (x .span .entries)))))
+            (sym (join-stream spanMark (x .span .page ∷ x .span .conts) (spanStream x) refl length-stream))
+            (encode-read (x .span .entries) 12 (word32 (x .prev) ++ (word32 (x .next) ++ (word16 (x .maxKeys) ++ word16 (length (x .span .entries)))))
             (replicate (1016 * suc (length (x .span .conts)) - length (spanStream x)) 0) refl (fits .entriesSmall));
       }
 
@@ -301,7 +265,7 @@ wrote {p} img qs sp mark (n ∷ ns) s l c h =
     let once : _ ≤ 1 = at-most-once h n in
     let w : Wrote p (write img n 0 b) qs sp (streamPages contMark ns (drop 1016 s)) ns (streamBytes contMark ns (drop 1016 s))
     = wrote (write img n 0 b) qs sp contMark ns (drop 1016 s) (unfold contMark in refl) (λ m. (let d : count m (n ∷ ns) ≤ count m sp = c m in omega arith))
-      (scribble qs sp n 0 b (omega arith) (omega arith) h) in
+    (scribble qs sp n 0 b (omega arith) (omega arith) h) in
     let e : pg (write img n 0 b) n ≡ b = pg-write-whole img n b (r .0) (lies-in h n (omega arith)) lb in
     record {
       holds = w .holds;
@@ -324,8 +288,8 @@ whole-span {p} {z} {img} {ks} {ts} {bs} {sp} xs ys x f s =
     let small : Every (λ n. n < 4294967296) ns = hand-small h ns inside in
     close-spans (apply (wholeSpan x) img) sp xs (x ∷ []) ys
     (claim (beforeSpan p z bs ks xs) (afterSpan ts bs ys) (span x) sp
-      (subst₂ (IsSpan x) (sym (head-eq-of-cons-eq (w .bytes))) (sym (tail-eq-of-cons-eq (w .bytes))) (span-borne x f (small .1)))
-      (w .holds))
+    (subst₂ (IsSpan x) (sym (head-eq-of-cons-eq (w .bytes))) (sym (tail-eq-of-cons-eq (w .bytes))) (span-borne x f (small .1)))
+    (w .holds))
 
 -- ---- A tower
 
@@ -353,7 +317,7 @@ tower-borne x f =
       height = be16-word16 (x .tower .height) (f .heightSmall);
       spanPage = be32-word32 (x .spanPage) (f .spanSmall);
       nexts = numbers-mid (x .nexts) (towerMark ++ (word16 (x .tower .maxHeight) ++ (word16 (x .tower .height) ++ word32 (x .spanPage))))
-        (replicate (1024 - length (towerBytes x)) 0) 16 refl (f .nextsSmall);
+          (replicate (1024 - length (towerBytes x)) 0) 16 refl (f .nextsSmall);
     }
 
 -- A tower is written whole to a page in hand
@@ -367,8 +331,8 @@ whole-tower {p} {z} {img} {ks} {xs} {bs} {sp} ts us t f s =
     let l : length w ≡ 1024 = length-padded 1024 (towerBytes t) (omega (arith, length-tower t, f .few)) in
     close-towers (write img n 0 w) sp ts (t ∷ []) us
     (adopt (beforeTower p z bs ks xs ts) (afterTower bs us) (tower t) sp n w (omega arith) refl
-      (λ pos there. subst (IsTower t) (sym (pg-write-whole img n w pos there l)) (tower-borne t f))
-      (open-towers img (n ∷ sp) ts [] us s))
+    (λ pos there. subst (IsTower t) (sym (pg-write-whole img n w pos there l)) (tower-borne t f))
+    (open-towers img (n ∷ sp) ts [] us s))
 
 -- ---- A skip list
 
@@ -410,5 +374,5 @@ whole-skip-list {p} {z} {img} {xs} {ts} {bs} {sp} ks js k f s =
     let l : length w ≡ 1024 = length-padded 1024 (skipBytes k) (omega (arith, length-skip k)) in
     close-skips (write img (k .page) 0 w) sp ks (k ∷ []) js
     (adopt (beforeSkip p z bs ks) (afterSkip xs ts bs js) (skipList k) sp (k .page) w (omega arith) refl
-      (λ pos there. subst (IsSkipList k) (sym (pg-write-whole img (k .page) w pos there l)) (skip-borne k f))
-      (open-skips img (k .page ∷ sp) ks [] js s))
+    (λ pos there. subst (IsSkipList k) (sym (pg-write-whole img (k .page) w pos there l)) (skip-borne k f))
+    (open-skips img (k .page ∷ sp) ks [] js s))

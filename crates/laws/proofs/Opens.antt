@@ -1,39 +1,21 @@
 -- What is held, as pieces; a well-formed image opened into what is held, and closed again.
-use Prim.Native.Nat.{ℕ, _+_, _*_, _≤_}
+use Prim.Native.Nat.{ℕ, _+_, _≤_}
 use native.Mathlib.Omega.{arith}
 use mathlib.Core.Path.{_≡_, refl, ap, sym, _∙_, subst, subst₃}
-use mathlib.Core.Bool.{cond}
-use mathlib.Core.List.{List, [], _∷_, _++_, map, append-assoc, append-nil, map-append}
+use mathlib.Core.List.{List, [], _∷_, _++_, map, append-assoc, map-append}
 use lib.ListN.{length}
 use Rattle.blockfile.specs.Bytes.{pg, word32, Every, gather}
 use Rattle.blockfile.specs.Layout.{Keyed, Table, Block, Layout, entriesOf}
-use Rattle.blockfile.specs.Order.{nameRule, keyRule, Within, within}
-use Rattle.blockfile.specs.Fields.{SkipList, LinkedSpan, LinkedTower, IsSuperblock, IsSkipList, IsSpan, IsTower}
-use Rattle.blockfile.specs.WellFormed.{
-  Piece,
-  superblock,
-  skipList,
-  tower,
-  span,
-  pagesOf,
-  Bears,
-  freePieces,
-  firstBlock,
-  count,
-  skipListOf,
-  spansIn,
-  towersIn,
-  tablePieces,
-  pieces,
-  TableOk,
-  WellFormed,
-}
+use Rattle.blockfile.specs.Order.{nameRule, keyRule, Within}
+use Rattle.blockfile.specs.Fields.{SkipList, LinkedSpan, LinkedTower}
+use Rattle.blockfile.specs.WellFormed.{Piece, superblock, skipList, tower, span, Bears, freePieces, firstBlock, count, skipListOf, spansIn, towersIn, tablePieces, pieces, TableOk, WellFormed}
 use Rattle.laws.proofs.Every.{every-left, every-right, every-join, every-map, every-unmap}
 use Rattle.laws.proofs.Count.{count-append}
 use Rattle.laws.proofs.Owned.{ownedBy, owned-append, count-owned}
 use Rattle.laws.proofs.State.{Held, Shows, skipPages, spanPages, towerPages, heldPages, heldBy}
 use Rattle.laws.proofs.Steps.{Holds}
 
+-- what is held, from its lists
 abbrev pub held : List SkipList → List LinkedSpan → List LinkedTower → List Block → (spare : List ℕ) → Held
 held ks xs ts bs sp = record { skips = ks; spans = xs; towers = ts; free = bs; spare = sp }
 
@@ -67,7 +49,7 @@ module _ (p z : ℕ) (ks : List SkipList) (xs : List LinkedSpan) (ts : List Link
   count-all n = sym (count-append n (ownedBy (allPieces p z (thingPieces ks xs ts) bs)) sp) ∙ ap (count n) owned-all
 
   module _ (img : List ℕ) where
-    -- an image shows what is held exactly where it holds its pieces
+    -- an image that shows what is held holds its pieces
     pub to-pieces : Shows p z img (held ks xs ts bs sp) → Holds p img (allPieces p z (thingPieces ks xs ts) bs) sp
     to-pieces s =
         let R : Piece → Type 0 = Bears (pg img) in
@@ -77,13 +59,14 @@ module _ (p z : ℕ) (ks : List SkipList) (xs : List LinkedSpan) (ts : List Link
           bears = (
             s .super,
             every-join R (thingPieces ks xs ts) (freePieces bs)
-            (every-join R (map skipList ks) (map span xs ++ map tower ts) (every-map R skipList ks (s .skips))
-              (every-join R (map span xs) (map tower ts) (every-map R span xs (s .spans)) (every-map R tower ts (s .towers))))
-            (s .free),
+                (every-join R (map skipList ks) (map span xs ++ map tower ts) (every-map R skipList ks (s .skips))
+                (every-join R (map span xs) (map tower ts) (every-map R span xs (s .spans)) (every-map R tower ts (s .towers))))
+                (s .free),
           );
           once = λ n. count-all n ∙ s .once n;
         }
 
+    -- and the other way round
     pub from-pieces : Holds p img (allPieces p z (thingPieces ks xs ts) bs) sp → Shows p z img (held ks xs ts bs sp)
     from-pieces s =
         let R : Piece → Type 0 = Bears (pg img) in
@@ -120,16 +103,17 @@ module _ (R : Piece → Type 0) where
       let r : Every R (a′ ++ b′) = every-right R k (a′ ++ b′) (h .1) in
       every-join R k ((a ++ a′) ++ (b ++ b′)) (every-left R k (a′ ++ b′) (h .1))
       (every-join R (a ++ a′) (b ++ b′)
-        (every-join R a a′ (every-left R a b (h .0)) (every-left R a′ b′ r))
-        (every-join R b b′ (every-right R a b (h .0)) (every-right R a′ b′ r)))
+      (every-join R a a′ (every-left R a b (h .0)) (every-left R a′ b′ r))
+      (every-join R b b′ (every-right R a b (h .0)) (every-right R a′ b′ r)))
 
   unmix : (k a a′ b b′ : List Piece) → Every R (k ++ ((a ++ a′) ++ (b ++ b′))) → Every R (a ++ b) × Every R (k ++ (a′ ++ b′))
   unmix k a a′ b b′ h =
       let r : Every R ((a ++ a′) ++ (b ++ b′)) = every-right R k ((a ++ a′) ++ (b ++ b′)) h in
       let u : Every R (a ++ a′) = every-left R (a ++ a′) (b ++ b′) r in
-      let v : Every R (b ++ b′) = every-right R (a ++ a′) (b ++ b′) r in
-      (every-join R a b (every-left R a a′ u) (every-left R b b′ v),
-        every-join R k (a′ ++ b′) (every-left R k ((a ++ a′) ++ (b ++ b′)) h) (every-join R a′ b′ (every-right R a a′ u) (every-right R b b′ v)))
+      let v : Every R (b ++ b′) = every-right R (a ++ a′) (b ++ b′) r in (
+        every-join R a b (every-left R a a′ u) (every-left R b b′ v),
+        every-join R k (a′ ++ b′) (every-left R k ((a ++ a′) ++ (b ++ b′)) h) (every-join R a′ b′ (every-right R a a′ u) (every-right R b b′ v)),
+      )
 
   -- one table and the others
   to-kinds : (t : Table) (ts : List Table) → Every R (tablePieces t) → Every R (kindPieces ts) → Every R (kindPieces (t ∷ ts))
@@ -191,6 +175,7 @@ pub record Ruled (L : Layout) : Type 0 where
   pub tablesOk : Every (λ n. TableOk (keyRule (n .key)) (n .value)) (L .tables)
   pub blocksOk : Every (λ b. length (b .listed) ≤ 252) (L .free)
 
+-- a well-formed image's layout keeps them
 pub ruled : (img : List ℕ) (L : Layout) → WellFormed img L → Ruled L
 ruled img L w =
     record {
@@ -225,8 +210,8 @@ module _ (img : List ℕ) (L : Layout) where
         bears = (
           b .0,
           every-join R (kindPieces (tablesOf L)) (freePieces (L .free))
-          (by-kind R (tablesOf L) (every-left R (gather tablePieces (tablesOf L)) (freePieces (L .free)) (b .1)))
-          (every-right R (gather tablePieces (tablesOf L)) (freePieces (L .free)) (b .1)),
+              (by-kind R (tablesOf L) (every-left R (gather tablePieces (tablesOf L)) (freePieces (L .free)) (b .1)))
+              (every-right R (gather tablePieces (tablesOf L)) (freePieces (L .free)) (b .1)),
         );
         once = λ n. same-once n ∙ w .once n;
       })
@@ -249,8 +234,8 @@ module _ (img : List ℕ) (L : Layout) where
         bears = subst (Every R) (sym (pieces-are L)) (
           h .bears .0,
           every-join R (gather tablePieces (tablesOf L)) (freePieces (L .free))
-          (by-table R (tablesOf L) (every-left R (kindPieces (tablesOf L)) (freePieces (L .free)) (h .bears .1)))
-          (every-right R (kindPieces (tablesOf L)) (freePieces (L .free)) (h .bears .1)),
+              (by-table R (tablesOf L) (every-left R (kindPieces (tablesOf L)) (freePieces (L .free)) (h .bears .1)))
+              (every-right R (kindPieces (tablesOf L)) (freePieces (L .free)) (h .bears .1)),
         );
         once = λ n. sym (same-once n) ∙ h .once n;
       }

@@ -22,10 +22,12 @@ abbrev pub Kept : (g h : ℕ → List ℕ) → List ℕ → Type 0
 Kept g h ns = Every (λ n. g n ≡ h n) ns
 
 module _ (g h : ℕ → List ℕ) where
+  -- the bytes of pages kept
   pub map-kept : (ns : List ℕ) → Kept g h ns → map g ns ≡ map h ns
   map-kept [] k = refl
   map-kept (n ∷ ns) k = ap₂ {C = List (List ℕ)} (λ b bs. b ∷ bs) (k .0) (map-kept ns (k .1))
 
+  -- a piece whose pages are kept is borne alike
   pub bears-kept : (q : Piece) → Kept g h (pagesOf q) → Bears g q → Bears h q
   bears-kept (superblock p f z) k b = subst (IsSuperblock p f z) (k .0) b
   bears-kept (skipList x) k b = subst (IsSkipList x) (k .0) b
@@ -50,8 +52,14 @@ untouched img n o bs (m ∷ ms) f z = (
   untouched img n o bs ms f (omega arith),
 )
 
+-- a write leaves what is said of the pieces that do not own its page
+pub frame-write : (img : List ℕ) (n o : ℕ) (bs : List ℕ) (qs : List Piece) → o + length bs ≤ 1024 → count n (ownedBy qs) ≡ 0
+    → Every (Bears (pg img)) qs → Every (Bears (pg (write img n o bs))) qs
+frame-write img n o bs qs f z b = frame (pg img) (pg (write img n o bs)) qs (untouched img n o bs (ownedBy qs) f z) b
+
 -- ---- Pieces held, and pages in hand
 
+-- an image of p pages bears these pieces, and each page is owned or in hand once
 pub record Holds (p : ℕ) (img : List ℕ) (qs : List Piece) (spare : List ℕ) : Type 0 where
   pub pages : Within 4 4096 p
   pub size : length img ≡ 1024 * p
@@ -63,6 +71,7 @@ module _ {p : ℕ} {img : List ℕ} {qs : List Piece} {sp : List ℕ} (h : Holds
   pub in-range : (n : ℕ) → 1 ≤ count n (ownedBy qs) + count n sp → Within 1 p n
   in-range n c = within-is 1 p n (bit-true (within 1 p n) (subst (λ (k : ℕ). 1 ≤ k) (h .once n) c))
 
+  -- and it is so only once
   pub at-most-once : (n : ℕ) → count n (ownedBy qs) + count n sp ≤ 1
   at-most-once n = subst (λ (k : ℕ). k ≤ 1) (sym (h .once n)) (bit-low (within 1 p n))
 
@@ -84,11 +93,33 @@ pub count-three : (n : ℕ) (xs qs ys : List Piece)
     → count n (ownedBy (xs ++ (qs ++ ys))) ≡ count n (ownedBy xs) + (count n (ownedBy qs) + count n (ownedBy ys))
 count-three n xs qs ys = count-owned n xs (qs ++ ys) ∙ ap (λ (k : ℕ). count n (ownedBy xs) + k) (count-owned n qs ys)
 
+-- the counts of one piece
+pub count-one : (m : ℕ) (q : Piece) → count m (ownedBy (q ∷ [])) ≡ count m (pagesOf q)
+count-one m q = ap (count m) (append-nil (pagesOf q))
+
+-- a piece's first page is owned
+pub piece-owned : (xs ys : List Piece) (q : Piece) (n : ℕ) (ns : List ℕ) → pagesOf q ≡ n ∷ ns → 1 ≤ count n (ownedBy (xs ++ (q ∷ ys)))
+piece-owned xs ys q n ns e =
+    let k3 : count n (ownedBy (xs ++ (q ∷ ys))) ≡ count n (ownedBy xs) + (count n (ownedBy (q ∷ [])) + count n (ownedBy ys)) = count-three n xs (q ∷ []) ys in
+    let k1 : count n (ownedBy (q ∷ [])) ≡ count n (n ∷ ns) = count-one n q ∙ ap (count n) e in
+    let s1 : count n (n ∷ ns) ≡ 1 + count n ns = count-here n ns in
+    omega arith
+
+-- and so a page of the image
+pub piece-within : {p : ℕ} {img sp : List ℕ} (xs ys : List Piece) (q : Piece) (n : ℕ) (ns : List ℕ) → pagesOf q ≡ n ∷ ns
+    → Holds p img (xs ++ (q ∷ ys)) sp → Within 1 p n
+piece-within xs ys q n ns e h = in-range h n (omega (arith, piece-owned xs ys q n ns e))
+
 -- only the counts of what is in hand matter
 pub in-hand : {p : ℕ} {img : List ℕ} {qs : List Piece} {sp : List ℕ} (sp′ : List ℕ) → ((m : ℕ) → count m sp′ ≡ count m sp)
     → Holds p img qs sp → Holds p img qs sp′
 in-hand {qs = qs} sp′ e h =
     record { pages = h .pages; size = h .size; bears = h .bears; once = λ m. ap (λ (k : ℕ). count m (ownedBy qs) + k) (e m) ∙ h .once m }
+
+-- pages of some pieces exchanged for others, with those in hand
+once-kept : (n : ℕ) (xs ys qs qs′ : List Piece) (sp sp′ : List ℕ) → count n (ownedBy qs′) + count n sp′ ≡ count n (ownedBy qs) + count n sp
+    → count n (ownedBy (xs ++ (qs′ ++ ys))) + count n sp′ ≡ count n (ownedBy (xs ++ (qs ++ ys))) + count n sp
+once-kept n xs ys qs qs′ sp sp′ e = simp count-owned (omega arith)
 
 -- A write to a page of the pieces qs, or to a page in hand: it is enough to look at qs
 pub replace : {p : ℕ} {img : List ℕ} (xs ys qs qs′ : List Piece) {sp : List ℕ} (sp′ : List ℕ) (n o : ℕ) (w : List ℕ)
@@ -108,17 +139,11 @@ replace {p} {img} xs ys qs qs′ {sp} sp′ n o w f c eq step h =
       pages = h .pages;
       size = length-write img n o w ∙ h .size;
       bears = every-join R′ xs (qs′ ++ ys)
-        (frame (pg img) (pg (write img n o w)) xs (untouched img n o w (ownedBy xs) f (omega arith)) (every-left R xs (qs ++ ys) (h .bears)))
-        (every-join R′ qs′ ys
+          (frame-write img n o w xs f (omega arith) (every-left R xs (qs ++ ys) (h .bears)))
+          (every-join R′ qs′ ys
           (step (every-left R qs ys rest))
-          (frame (pg img) (pg (write img n o w)) ys (untouched img n o w (ownedBy ys) f (omega arith)) (every-right R qs ys rest)));
-      once = λ m. (
-        let e : count m (ownedBy qs′) + count m sp′ ≡ count m (ownedBy qs) + count m sp = eq m in
-        let a : count m (ownedBy (xs ++ (qs ++ ys))) ≡ count m (ownedBy xs) + (count m (ownedBy qs) + count m (ownedBy ys)) = count-three m xs qs ys in
-        let b : count m (ownedBy (xs ++ (qs′ ++ ys))) ≡ count m (ownedBy xs) + (count m (ownedBy qs′) + count m (ownedBy ys)) = count-three m xs qs′ ys in
-        let q : count m (ownedBy (xs ++ (qs′ ++ ys))) + count m sp′ ≡ count m (ownedBy (xs ++ (qs ++ ys))) + count m sp = omega arith in
-        q ∙ h .once m
-      );
+          (frame-write img n o w ys f (omega arith) (every-right R qs ys rest)));
+      once = λ m. once-kept m xs ys qs qs′ sp sp′ (eq m) ∙ h .once m;
     }
 
 -- other pieces take the place of some, on the same pages and those in hand; no byte changes
@@ -133,19 +158,9 @@ exchange {p} {img} xs ys qs qs′ {sp} sp′ eq step h =
       pages = h .pages;
       size = h .size;
       bears = every-join R xs (qs′ ++ ys) (every-left R xs (qs ++ ys) (h .bears))
-        (every-join R qs′ ys (step (every-left R qs ys rest)) (every-right R qs ys rest));
-      once = λ m. (
-        let e : count m (ownedBy qs′) + count m sp′ ≡ count m (ownedBy qs) + count m sp = eq m in
-        let a : count m (ownedBy (xs ++ (qs ++ ys))) ≡ count m (ownedBy xs) + (count m (ownedBy qs) + count m (ownedBy ys)) = count-three m xs qs ys in
-        let b : count m (ownedBy (xs ++ (qs′ ++ ys))) ≡ count m (ownedBy xs) + (count m (ownedBy qs′) + count m (ownedBy ys)) = count-three m xs qs′ ys in
-        let q : count m (ownedBy (xs ++ (qs′ ++ ys))) + count m sp′ ≡ count m (ownedBy (xs ++ (qs ++ ys))) + count m sp = omega arith in
-        q ∙ h .once m
-      );
+          (every-join R qs′ ys (step (every-left R qs ys rest)) (every-right R qs ys rest));
+      once = λ m. once-kept m xs ys qs qs′ sp sp′ (eq m) ∙ h .once m;
     }
-
--- the counts of one piece
-pub count-one : (m : ℕ) (q : Piece) → count m (ownedBy (q ∷ [])) ≡ count m (pagesOf q)
-count-one m q = ap (count m) (append-nil (pagesOf q))
 
 -- a piece is let go: its pages are in hand
 pub release : {p : ℕ} {img : List ℕ} (xs ys : List Piece) (q : Piece) (sp : List ℕ)

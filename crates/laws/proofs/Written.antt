@@ -7,53 +7,34 @@ use mathlib.Core.Path.{_≡_, refl, ap, ap₂, sym, _∙_, subst}
 use mathlib.Core.Logic.{inl, inr, by-cases}
 use mathlib.Core.List.{List, [], _∷_, _++_}
 use lib.ListN.{length, getD, take, drop, set, length-append, length-drop, length-set}
-use lib.Seq.{sets, slice, drop-set-lt, drop-append-le, drop-drop, take-nil, drop-nil, getD-drop, getD-set-same, getD-set-other, length-sets}
+use lib.Seq.{sets, slice, drop-set-lt, drop-append-le, drop-drop, take-nil, getD-drop, getD-set-same, getD-set-other, length-sets}
 use lib.Dec.{lit<, lit≤}
 use Rattle.blockfile.specs.Bytes.{pg, write, be16, be32, word16, word32, gather}
 use Rattle.blockfile.specs.Marks.{blockMark, freeMark}
-use Rattle.blockfile.specs.Layout.{Entry, Tower, lensAt, entryEnd}
-use Rattle.blockfile.specs.Fields.{
-  SkipList,
-  LinkedTower,
-  LinkedSpan,
-  IsSuperblock,
-  IsSkipList,
-  IsTower,
-  IsSpan,
-  IsBlock,
-  IsFree,
-  Numbers,
-  EntriesAt,
-}
+use Rattle.blockfile.specs.Layout.{Entry, lensAt, entryEnd}
+use Rattle.blockfile.specs.Fields.{SkipList, LinkedTower, LinkedSpan, IsSuperblock, IsSkipList, IsTower, IsSpan, IsBlock, IsFree, Numbers, EntriesAt}
 use Rattle.blockfile.specs.Encode.{counts}
 use Rattle.laws.proofs.Lists.{Apart, take-sets-before, take-sets-start}
 use Rattle.laws.proofs.Numbers.{be64-agree, be32-word32, be32-left, be32-right, length-word16, length-word32}
-use Rattle.laws.proofs.Pages.{
-  length-pg,
-  pg-write-same,
-  agree-write-off,
-  be16-write-off,
-  be32-write-off,
-  be32-write-in,
-  be16-write-same,
-  be32-write-same,
-}
+use Rattle.laws.proofs.Pages.{length-pg, pg-write-same, agree-write-off, be16-write-off, be32-write-off, be32-write-in, be16-write-same, be32-write-same}
 use Rattle.laws.proofs.FreeRead.{numbers-at}
 use Rattle.laws.proofs.Positions.{lens-after}
 
 -- ---- Numbers, one after another
 
+-- numbers by their places
 pub numbers-from : (b : List ℕ) (o : ℕ) (ns : List ℕ) → ((i : ℕ) → i < length ns → be32 b (o + 4 * i) ≡ getD ns i 0) → Numbers b o ns
 numbers-from b o [] f = tt
 numbers-from b o (n ∷ ns) f =
     let z : o + 4 * 0 ≡ o = omega arith in
     (rw z at (f 0 (omega arith)), numbers-from b (o + 4) ns (λ i l. (let e : o + 4 + 4 * i ≡ o + 4 * suc i = omega arith in rw e (f (suc i) (omega arith)))))
 
--- in two parts
+-- the first ones of two lists
 pub numbers-left : (b : List ℕ) (o : ℕ) (ns ms : List ℕ) → Numbers b o (ns ++ ms) → Numbers b o ns
 numbers-left b o [] ms h = tt
 numbers-left b o (n ∷ ns) ms h = (h .0, numbers-left b (o + 4) ns ms (h .1))
 
+-- two lists, one after the other
 pub numbers-join : (b : List ℕ) (o : ℕ) (ns ms : List ℕ) → Numbers b o ns → Numbers b (o + 4 * length ns) ms → Numbers b o (ns ++ ms)
 numbers-join b o [] ms h k = let e : o + 4 * 0 ≡ o = omega arith in rw e at k
 numbers-join b o (n ∷ ns) ms h k =
@@ -65,10 +46,12 @@ abbrev pub numbersOf : (b : List ℕ) (o k : ℕ) → List ℕ
 numbersOf b o zero = []
 numbersOf b o (suc k) = be32 b o ∷ numbersOf b (o + 4) k
 
+-- they are k numbers
 pub length-numbers : (b : List ℕ) (o k : ℕ) → length (numbersOf b o k) ≡ k
 length-numbers b o zero = refl
 length-numbers b o (suc k) = ap suc (length-numbers b (o + 4) k)
 
+-- and they stand there
 pub are-numbers : (b : List ℕ) (o k : ℕ) → Numbers b o (numbersOf b o k)
 are-numbers b o zero = tt
 are-numbers b o (suc k) = (refl, are-numbers b (o + 4) k)
@@ -80,12 +63,15 @@ drop-sets-after [] l i n h = refl
 drop-sets-after (v ∷ vs) l i n h = drop-sets-after vs (set l i v) (suc i) n (omega arith) ∙ drop-set-lt n l i v (omega arith)
 
 module _ (img : List ℕ) (n o : ℕ) (bs : List ℕ) (pos : 1 ≤ n) (fits : o + length bs ≤ 1024) where
+  -- the start of a page, before a write
   pub take-write-off : (k : ℕ) → k ≤ o → take k (pg (write img n o bs) n) ≡ take k (pg img n)
   take-write-off k h = ap (take k) (pg-write-same img n o bs pos fits) ∙ take-sets-before bs (pg img n) o k h
 
+  -- the end of a page, after a write
   pub drop-write-off : (k : ℕ) → o + length bs ≤ k → drop k (pg (write img n o bs) n) ≡ drop k (pg img n)
   drop-write-off k h = ap (drop k) (pg-write-same img n o bs pos fits) ∙ drop-sets-after bs (pg img n) o k h
 
+  -- numbers that a write does not meet
   pub numbers-write-off : (a : ℕ) (ns : List ℕ) → Apart a (4 * length ns) o (length bs) → Numbers (pg img n) a ns → Numbers (pg (write img n o bs) n) a ns
   numbers-write-off a ns r h =
       numbers-from (pg (write img n o bs) n) a ns
@@ -99,7 +85,7 @@ module _ (img : List ℕ) (n o : ℕ) (bs : List ℕ) (pos : 1 ≤ n) (fits : o 
 
 drop-take : (n m : ℕ) (l : List ℕ) → drop n (take (n + m) l) ≡ take m (drop n l)
 drop-take zero m l = rw zero-add
-drop-take (suc n) m [] = rw (take-nil, take-nil)
+drop-take (suc n) m [] = rw (take-nil {A = ℕ} (suc n + m), take-nil {A = ℕ} m)
 drop-take (suc n) m (x ∷ xs) = rw suc-add (drop-take n m xs)
 
 module _ (s s′ : List ℕ) (e : drop 12 s ≡ drop 12 s′) where
@@ -127,8 +113,7 @@ module _ (s s′ : List ℕ) (e : drop 12 s ≡ drop 12 s′) where
   entries-tail v [] h k = tt
   entries-tail v (x ∷ xs) h k =
       let g : v ≤ lensAt v = lens-after v in
-      let a : ℕ = lensAt v in
-      (
+      let a : ℕ = lensAt v in (
         be16-tail a (omega arith) ∙ k .0,
         be16-tail (a + 2) (omega arith) ∙ k .1,
         slice-tail (a + 4) (a + 4 + length (x .key)) (omega arith) (omega arith) ∙ k .2,
@@ -144,18 +129,23 @@ stream-tail b b′ r e l l′ =
 
 -- ---- Fields
 
+-- a span with another previous link
 abbrev pub withPrev : ℕ → LinkedSpan → LinkedSpan
 withPrev v x = record { span = x .span; prev = v; next = x .next; maxKeys = x .maxKeys }
 
+-- a span with another next link
 abbrev pub withNext : ℕ → LinkedSpan → LinkedSpan
 withNext v x = record { span = x .span; prev = x .prev; next = v; maxKeys = x .maxKeys }
 
+-- a skip list with other counts
 abbrev pub withCounts : (size spans levels : ℕ) → SkipList → SkipList
 withCounts a m l k = record { page = k .page; first = k .first; level = k .level; size = a; spans = m; levels = l; spanSize = k .spanSize }
 
+-- a tower with other entries
 abbrev pub withNexts : List ℕ → LinkedTower → LinkedTower
 withNexts ns x = record { tower = x .tower; spanPage = x .spanPage; nexts = ns }
 
+-- a tower with another current height
 abbrev pub withHeight : ℕ → LinkedTower → LinkedTower
 withHeight v x = record { tower = record { page = x .tower .page; maxHeight = x .tower .maxHeight; height = v }; spanPage = x .spanPage; nexts = x .nexts }
 
@@ -170,7 +160,7 @@ module _ (img : List ℕ) (n : ℕ) (pos : 1 ≤ n) (there : 1024 * n ≤ length
         major = agree-write-off img n 16 (word32 v) pos fits 1 6 (inl (lit≤ tt)) 0 (lit< tt) ∙ k .major;
         minor = agree-write-off img n 16 (word32 v) pos fits 1 7 (inl (lit≤ tt)) 0 (lit< tt) ∙ k .minor;
         fileLength = be64-agree (pg (write img n 16 (word32 v)) n) 8 (pg img n) 8 (agree-write-off img n 16 (word32 v) pos fits 8 8 (inl (lit≤ tt)))
-          ∙ k .fileLength;
+            ∙ k .fileLength;
         free = be32-write-same img n 16 v pos there (lit≤ tt) h;
         mounted = subst (λ (m : ℕ). m ≤ 1) (sym (be16-write-off img n 16 (word32 v) pos fits 20 (inr (omega arith)))) (k .mounted);
         spanSize = be16-write-off img n 16 (word32 v) pos fits 22 (inr (omega arith)) ∙ k .spanSize;
@@ -194,13 +184,13 @@ module _ (img : List ℕ) (n : ℕ) (pos : 1 ≤ n) (there : 1024 * n ≤ length
         level = be32-write-off img n 16 w pos fits 12 (inl (lit≤ tt)) ∙ t .level;
         size = be32-write-in img n 16 w pos fits there 0 (omega arith) ∙ be32-left (word32 a) (word32 m ++ word32 l) 0 (omega arith) ∙ be32-word32 a ha;
         spans = be32-write-in img n 16 w pos fits there 4 (omega arith) ∙ be32-right (word32 a) (word32 m ++ word32 l) 4 0 la
-          ∙ be32-left (word32 m) (word32 l) 0 (omega arith) ∙ be32-word32 m hm;
+            ∙ be32-left (word32 m) (word32 l) 0 (omega arith) ∙ be32-word32 m hm;
         levels = be32-write-in img n 16 w pos fits there 8 (omega arith) ∙ be32-right (word32 a) (word32 m ++ word32 l) 4 4 la
-          ∙ be32-right (word32 m) (word32 l) 4 0 lm ∙ be32-word32 l hl;
+            ∙ be32-right (word32 m) (word32 l) 4 0 lm ∙ be32-word32 l hl;
         spanSize = be16-write-off img n 16 w pos fits 28 (inr (omega arith)) ∙ t .spanSize;
       }
 
-  -- a field of a span's page before its entries; the links, max keys and size are as given
+  -- a field of a span's page before its entries leaves the entries
   span-field : {x : LinkedSpan} {cs : List (List ℕ)} (o : ℕ) (w : List ℕ) → o + length w ≤ 20 → IsSpan x (pg img n) cs
       → EntriesAt (gather (λ c. drop 8 c) (pg (write img n o w) n ∷ cs)) 12 (x .span .entries)
   span-field {x} {cs} o w h k =
@@ -208,10 +198,10 @@ module _ (img : List ℕ) (n : ℕ) (pos : 1 ≤ n) (there : 1024 * n ≤ length
       let r : List ℕ = gather (λ c. drop 8 c) cs in
       entries-tail (drop 8 (pg img n) ++ r) (drop 8 (pg (write img n o w) n) ++ r)
       (stream-tail (pg img n) (pg (write img n o w) n) r (sym (drop-write-off img n o w pos fits 20 h)) (length-pg img n pos there)
-        (ap length (pg-write-same img n o w pos fits) ∙ length-sets (pg img n) o w ∙ length-pg img n pos there))
+      (ap length (pg-write-same img n o w pos fits) ∙ length-sets (pg img n) o w ∙ length-pg img n pos there))
       12 (x .span .entries) (lit≤ tt) (k .entries)
 
-  -- a span's previous link, and its next link
+  -- a span's previous link
   pub span-prev : {x : LinkedSpan} {cs : List (List ℕ)} (v : ℕ) → v < 4294967296 → IsSpan x (pg img n) cs
       → IsSpan (withPrev v x) (pg (write img n 8 (word32 v)) n) cs
   span-prev v h k =
@@ -228,6 +218,7 @@ module _ (img : List ℕ) (n : ℕ) (pos : 1 ≤ n) (there : 1024 * n ≤ length
         entries = span-field 8 (word32 v) (omega arith) k;
       }
 
+  -- a span's next link
   pub span-next : {x : LinkedSpan} {cs : List (List ℕ)} (v : ℕ) → v < 4294967296 → IsSpan x (pg img n) cs
       → IsSpan (withNext v x) (pg (write img n 12 (word32 v)) n) cs
   span-next v h k =
@@ -257,7 +248,7 @@ module _ (img : List ℕ) (n : ℕ) (pos : 1 ≤ n) (there : 1024 * n ≤ length
         height = be16-write-off img n o (word32 v) pos fits 10 (inl (omega arith)) ∙ k .height;
         spanPage = be32-write-off img n o (word32 v) pos fits 12 (inl (omega arith)) ∙ k .spanPage;
         nexts = numbers-from (pg (write img n o (word32 v)) n) 16 (set (x .nexts) i v)
-          (λ j q. at j (omega (arith, length-set (x .nexts) i v)) (ℕ-discrete j i));
+            (λ j q. at j (omega (arith, length-set (x .nexts) i v)) (ℕ-discrete j i));
       }
     where
       at : (j : ℕ) → j < length (x .nexts) → Dec (j ≡ i) → be32 (pg (write img n (16 + 4 * i) (word32 v)) n) (16 + 4 * j) ≡ getD (set (x .nexts) i v) j 0
@@ -321,7 +312,7 @@ module _ (img : List ℕ) (n : ℕ) (pos : 1 ≤ n) (there : 1024 * n ≤ length
         next = be32-write-off img n 12 w pos fits 8 (inl (lit≤ tt)) ∙ k .next;
         count = be32-write-same img n 12 (length ws + 1) pos there (lit≤ tt) h ∙ sym (length-append ws (x ∷ []));
         listed = numbers-write-off img n 12 w pos fits 16 (ws ++ x ∷ []) (inr (omega arith))
-          (numbers-join (pg img n) 16 ws (x ∷ []) (k .listed) (e, tt));
+            (numbers-join (pg img n) 16 ws (x ∷ []) (k .listed) (e, tt));
       }
 
   -- a mark at the start of a page
@@ -342,9 +333,9 @@ module _ (img : List ℕ) (n : ℕ) (pos : 1 ≤ n) (there : 1024 * n ≤ length
       record {
         mark = mark-written blockMark w 8 (omega arith) (omega arith) refl;
         next = be32-write-in img n 0 w pos fits there 8 (omega arith) ∙ be32-right blockMark (word32 f ++ word32 0) 8 0 refl
-          ∙ be32-left (word32 f) (word32 0) 0 (omega arith) ∙ be32-word32 f h;
+            ∙ be32-left (word32 f) (word32 0) 0 (omega arith) ∙ be32-word32 f h;
         count = be32-write-in img n 0 w pos fits there 12 (omega arith) ∙ be32-right blockMark (word32 f ++ word32 0) 8 4 refl
-          ∙ be32-right (word32 f) (word32 0) 4 0 lf ∙ be32-word32 0 (lit< tt);
+            ∙ be32-right (word32 f) (word32 0) 4 0 lf ∙ be32-word32 0 (lit< tt);
         listed = tt;
       }
 
