@@ -1,2 +1,3 @@
 // Is an image well-formed: one module for each kind of thing.
 pub mod free;
+pub mod superblock;

@@ -4,7 +4,7 @@ use native.Mathlib.Omega.{arith}
 use native.Mathlib.Decide.{ℕ-discrete, decLt}
 use mathlib.Core.Path.{_≡_, refl, ap, sym, _∙_, subst}
 use mathlib.Core.Logic.{by-cases}
-use mathlib.Core.Bool.{Bool, true, false, cond, _&&_}
+use mathlib.Core.Bool.{Bool, true, false, cond, _&&_, true≢false}
 use mathlib.Core.List.{List, [], _∷_, _++_}
 use lib.ListN.{length, getD, set, length-set}
 use lib.Seq.{getD-set-same, getD-set-other}
@@ -20,7 +20,7 @@ use Rattle.laws.proofs.Count.{count-here, count-append}
 use Rattle.laws.proofs.Owned.{ownedBy, owned-append}
 use Rattle.pages.specs.Begins.{begins}
 use Rattle.pages.specs.Claims.{claimable, claimed, full}
-use Rattle.walks.specs.Found.{Open, Fresh, claims, zeros, Found, FindsAt}
+use Rattle.walks.specs.Found.{Open, Fresh, claims, zeros, Found, Decides, FindsAt}
 
 -- ---- Claims
 
@@ -123,7 +123,13 @@ module _ (img scr : List ℕ) (ps qs : List Piece) where
         left = f .left ∙ ap (claims scr) (owned-append ps qs) ∙ claims-append scr (ownedBy ps) (ownedBy qs);
       }
 
--- ---- Answers of walks
+-- ---- Answers
+
+pub decides-true : {A : Type 0} → A → Decides A true
+decides-true a = record { sound = λ e. a; complete = λ b. refl }
+
+pub decides-false : {A : Type 0} → (A → ⊥) → Decides A false
+decides-false f = record { sound = λ e. absurd (true≢false (sym e)); complete = λ a. absurd (f a) }
 
 -- F and G hold of the same answers: a loop's invariant, F from here and G from the start
 pub record SameAt {A : Type 0} (F G : A → List ℕ → Type 0) : Type 0 where

@@ -1,7 +1,7 @@
 -- What a walk finds: pieces that the image bears, each of their pages claimed once, in turn.
 use Prim.Native.Nat.{ℕ, suc, _-_, _≤_}
 use mathlib.Core.Path.{_≡_}
-use mathlib.Core.Bool.{cond}
+use mathlib.Core.Bool.{Bool, true, cond}
 use mathlib.Core.List.{List, [], _∷_}
 use lib.ListN.{length, getD}
 use lib.Dec.{eqb}
@@ -34,6 +34,11 @@ pub record Found (img scr : List ℕ) (ps : List Piece) (out : List ℕ) : Type 
   pub bears : Every (Bears (pg img)) ps
   pub fresh : Fresh scr (gather pagesOf ps)
   pub left : out ≡ claims scr (gather pagesOf ps)
+
+-- the answer is true exactly where A holds
+pub record Decides (A : Type 0) (r : Bool) : Type 0 where
+  pub sound : r ≡ true → A
+  pub complete : A → r ≡ true
 
 -- the answer r is `done a` with the scratch s exactly where F a s holds
 pub record FindsAt {A R : Type 0} (done : A → R) (F : A → List ℕ → Type 0) (r : R) (s : List ℕ) : Type 0 where

@@ -1,0 +1,73 @@
+// The superblock, page 1.
+ghost use mathlib.Core.Path.{_≡_};
+ghost use Prim.Native.Nat.{_*_, _≤_};
+ghost use lib.ListN.{length};
+ghost use Rattle.blockfile.specs.Bytes.{pg};
+ghost use Rattle.blockfile.specs.Order.{Within};
+ghost use Rattle.pages.specs.Claims.{Lent};
+ghost use Rattle.walks.specs.Found.{Decides, FindsAt};
+ghost use Rattle.verify.specs.declared.superblock.Started.the-variants.{Begun};
+ghost use Rattle.verify.specs.Superblock.{Fixed, SuperFound};
+use pages::claim::claim;
+use pages::read::get16;
+use pages::read::get32;
+
+// What the rest of the image goes by: the first free-list page or 0, and the span size.
+pub struct Superblock {
+    pub free: usize,
+    pub size: usize,
+}
+
+pub enum Started {
+    Refused,
+    Begun(Superblock),
+}
+
+// The kind by the index of its mark.
+const SUPERBLOCK: usize = 0;
+
+// Whether the version is 1.2, the file length that of the pages, and the page size 1024.
+fn is_fixed(image: &[u8], pages: usize) -> bool
+    requires { ⌜ (length (now image) ≡ 1024 * pages) × Within 1 4096 pages ⌝ }
+    ensures { λ r. ⌜ Decides (Fixed pages (pg (now (image .entry)) 1)) r ⌝ }
+{
+    if get16(image, 1, 6) != 0x0102 {
+        return false;
+    }
+    if get32(image, 1, 8) != 0 {
+        return false;
+    }
+    if get32(image, 1, 12) != 1024 * pages {
+        return false;
+    }
+    if get32(image, 1, 24) != 1024 {
+        return false;
+    }
+    true
+}
+
+// Claims page 1 and reads the superblock.
+pub fn verify_superblock(image: &[u8], scratch: &mut [u8]) -> Started
+    requires { ⌜ Lent (now image) (now scratch) ⌝ }
+    ensures { λ r. ⌜ FindsAt Begun (SuperFound (now (image .entry)) (now (scratch .entry))) r (now (scratch .exit)) ⌝ }
+{
+    if !claim(image, scratch, 1, SUPERBLOCK) {
+        return Started::Refused;
+    }
+    if !is_fixed(image, scratch.len()) {
+        return Started::Refused;
+    }
+    let mounted = get16(image, 1, 20);
+    if 1 < mounted {
+        return Started::Refused;
+    }
+    let size = get16(image, 1, 22);
+    if size < 2 {
+        return Started::Refused;
+    }
+    if 128 < size {
+        return Started::Refused;
+    }
+    let free = get32(image, 1, 16);
+    Started::Begun(Superblock { free, size })
+}
