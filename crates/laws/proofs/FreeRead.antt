@@ -5,20 +5,20 @@ use mathlib.Core.Path.{_≡_, refl, ap, sym, _∙_, subst}
 use mathlib.Core.Bool.{Bool, true, false, _&&_, cond}
 use mathlib.Core.List.{List, [], _∷_, _++_, map}
 use lib.ListN.{length, getD}
-use lib.Dec.{eqb, leb}
+use lib.Dec.{leb}
 use borrow.Author.Tests.{lt-ltb, le-ltb, leb-true, eq-eqb}
-use Rattle.blockfile.specs.Bytes.{pg, be32, word32, Write, on, Every, gather}
+use Rattle.blockfile.specs.Bytes.{be32, word32, Write, on, Every, gather}
 use Rattle.blockfile.specs.Marks.{blockMark, freeMark}
 use Rattle.blockfile.specs.Layout.{Block, freeCount}
 use Rattle.blockfile.specs.Order.{Within, within}
 use Rattle.blockfile.specs.Fields.{Numbers}
 use Rattle.blockfile.specs.WellFormed.{Piece, freePage, Bears, pagesOf, freePieces, firstBlock, count}
 use Rattle.blockfile.specs.Free.{Drawn, takeFrom, takePage, givePage}
-use Rattle.laws.specs.FreeList.{FreeList}
+use Rattle.laws.specs.FreeList.{FreeList, freePages}
 
 -- ---- how often a page is in a free list
 
-count-append : (n : ℕ) (xs ys : List ℕ) → count n (xs ++ ys) ≡ count n xs + count n ys
+pub count-append : (n : ℕ) (xs ys : List ℕ) → count n (xs ++ ys) ≡ count n xs + count n ys
 count-append n [] ys = omega arith
 count-append n (x ∷ xs) ys = omega (arith, count-append n xs ys)
 
@@ -28,7 +28,7 @@ count-listed n (x ∷ ns) ps = omega (arith, count-listed n ns ps)
 
 -- the block itself, the pages it lists, the blocks after it
 pub count-block : (n : ℕ) (b : Block) (bs : List Block)
-    → count n (gather pagesOf (freePieces (b ∷ bs))) ≡ count n (b .page ∷ []) + (count n (b .listed) + count n (gather pagesOf (freePieces bs)))
+    → count n (freePages (b ∷ bs)) ≡ count n (b .page ∷ []) + (count n (b .listed) + count n (freePages bs))
 count-block n b bs = omega (arith, count-listed n (b .listed) (freePieces bs))
 
 pub count-self : (n : ℕ) → count n (n ∷ []) ≡ 1
@@ -46,8 +46,8 @@ pub record Ranged (img : List ℕ) (n : ℕ) : Type 0 where
   pub low : 2 ≤ n
   pub high : 1024 * n ≤ length img
 
-both : (lo hi n : ℕ) → 1 ≤ cond (within lo hi n) 1 0 → Within lo hi n
-both lo hi n = go (leb lo n) (leb n hi) refl refl
+pub within-both : (lo hi n : ℕ) → 1 ≤ cond (within lo hi n) 1 0 → Within lo hi n
+within-both lo hi n = go (leb lo n) (leb n hi) refl refl
   where
     go : (a b : Bool) → leb lo n ≡ a → leb n hi ≡ b → 1 ≤ cond (a && b) 1 0 → Within lo hi n
     go true true p q h = (leb-true lo n p, leb-true n hi q)
@@ -55,9 +55,9 @@ both lo hi n = go (leb lo n) (leb n hi) refl refl
     go false b p q h = absurd (omega arith)
 
 module _ {img : List ℕ} where
-  pub in-range : {bs : List Block} → FreeList img bs → (n : ℕ) → 1 ≤ count n (gather pagesOf (freePieces bs)) → Ranged img n
+  pub in-range : {bs : List Block} → FreeList img bs → (n : ℕ) → 1 ≤ count n (freePages bs) → Ranged img n
   in-range h n l =
-      let r : Within 2 (h .pages) n = both 2 (h .pages) n (omega (arith, h .once n)) in
+      let r : Within 2 (h .pages) n = within-both 2 (h .pages) n (omega (arith, h .once n)) in
       record { low = r .0; high = omega (arith, h .size) }
 
   pub first-in : (bs : List Block) → FreeList img bs → 1 ≤ firstBlock bs → Ranged img (firstBlock bs)

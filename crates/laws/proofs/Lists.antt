@@ -7,21 +7,7 @@ use mathlib.Core.Path.{_≡_, refl, ap, sym, _∙_}
 use mathlib.Core.Logic.{_⊎_, inl, inr}
 use mathlib.Core.List.{List, [], _∷_, _++_, append-nil}
 use lib.ListN.{length, getD, take, drop, set, length-take, length-set, drop-of-length-le, List·getD-append}
-use lib.Seq.{
-  sets,
-  sets-eq,
-  take-suc,
-  take-all,
-  take-set-le,
-  take-set-lt,
-  take-append-le,
-  drop-set-add,
-  getD-take,
-  getD-set-same,
-  getD-set-other,
-  getD-append-add,
-  ext-getD,
-}
+use lib.Seq.{sets, sets-eq, take-suc, take-set-le, take-set-lt, take-append-le, drop-set-add, getD-take, getD-set-same, getD-set-other, getD-append-add, ext-getD}
 
 -- a read of w bytes from a on meets no write of n bytes from o on
 abbrev pub Apart : (a w o n : ℕ) → Type 0

@@ -1,10 +1,10 @@
 -- Big-endian numbers: their bytes, and reading them back.
-use Prim.Native.Nat.{ℕ, zero, suc, _+_, _*_, _/_, _%_, _<_, _≤_}
+use Prim.Native.Nat.{ℕ, _+_, _*_, _/_, _%_, _<_, _≤_}
 use native.Mathlib.Omega.{arith}
 use native.Mathlib.Nat.{add-zero, add-assoc, div-div-eq-div-mul, div-add-mod', mod-eq-of-lt, div-lt-iff-lt-mul}
 use lib.Dec.{lit<}
-use mathlib.Core.Path.{_≡_, refl, ap, sym, _∙_}
-use mathlib.Core.List.{List, [], _∷_, _++_}
+use mathlib.Core.Path.{_≡_, refl}
+use mathlib.Core.List.{List, _++_}
 use lib.ListN.{length, getD}
 use Rattle.blockfile.specs.Bytes.{be16, be32, be64, word16, word32}
 use Rattle.laws.proofs.Lists.{Agree, agree-left, agree-right}

@@ -3,18 +3,17 @@ use Prim.Native.Nat.{ℕ, _+_, _*_, _-_, _≤_, _<_}
 use native.Mathlib.Omega.{arith}
 use mathlib.Core.List.{List, [], _∷_, _++_}
 use mathlib.Core.Path.{_≡_, refl, ap, sym, _∙_}
-use lib.ListN.{length}
 use Rattle.blockfile.specs.Bytes.{pg, be32, word32, write, apply, Write, on}
 use Rattle.blockfile.specs.Marks.{blockMark}
-use Rattle.blockfile.specs.Layout.{Block, freeCount}
+use Rattle.blockfile.specs.Layout.{Block}
 use Rattle.blockfile.specs.WellFormed.{firstBlock}
-use Rattle.blockfile.specs.Free.{takePage, givePage}
+use Rattle.blockfile.specs.Free.{takePage}
 use Rattle.laws.specs.FreeList.{FreeList}
 use Rattle.laws.proofs.Numbers.{length-word32}
 use Rattle.laws.proofs.Pages.{write-append}
 use Rattle.laws.proofs.FreeRead.{Ranged, first-in, first-some, count-few, Takes, take-block, take-listed, taken-in, listWrites, blockWrites, give-listed, give-full, give-empty}
 use Rattle.pages.specs.Places.{Inside}
-use Rattle.pages.specs.Taking.{Takeable, Took, Giveable, Gave}
+use Rattle.pages.specs.Taking.{Takeable, Took, Gave}
 
 pub take-first : {img : List ℕ} → Takeable img → 1 ≤ be32 (pg img 1) 16
 take-first t = omega (arith, first-some (t .free) (t .shown) (t .some), t .shown .first)
@@ -52,21 +51,21 @@ module _ {img : List ℕ} (t : Takeable img) (f c : ℕ) (first : f ≡ be32 (pg
       took f (on 1 16 (word32 (be32 (pg img f) 8))) out t (λ bs h. take-block (pg img) f c some count bs (first ∙ h .first) (h .bears) z)
       (o ∙ ap (λ (v : ℕ). write img 1 16 (word32 v)) e)
 
-  pub took-listed : (r : ℕ) → (c ≡ 0 → ⊥) → r ≡ be32 (pg img f) (12 + 4 * c) → out ≡ write img f 12 (word32 (c - 1)) → Took img r out
+  pub took-listed : (r : ℕ) → 1 ≤ c → r ≡ be32 (pg img f) (12 + 4 * c) → out ≡ write img f 12 (word32 (c - 1)) → Took img r out
   took-listed r z e o =
       took r (on f 12 (word32 (c - 1))) out t
-      (λ bs h. rw e (take-listed (pg img) f c some count bs (first ∙ h .first) (h .bears) (omega (arith, z)))) o
+      (λ bs h. rw e (take-listed (pg img) f c some count bs (first ∙ h .first) (h .bears) z)) o
 
 module _ {img : List ℕ} (x f : ℕ) (first : f ≡ be32 (pg img 1) 16) (out : List ℕ) where
   pub gave-empty : f ≡ 0 → out ≡ apply (blockWrites x f) img → Gave img x out
   gave-empty z o bs h = o ∙ rw z (ap (λ (ws : List Write). apply ws img) (sym (give-empty x bs h (sym (h .first) ∙ sym first ∙ z))))
 
-  module _ (c : ℕ) (count : c ≡ be32 (pg img f) 12) (some : f ≡ 0 → ⊥) where
+  module _ (c : ℕ) (count : c ≡ be32 (pg img f) 12) (some : 1 ≤ f) where
     pub gave-listed : c < 252 → out ≡ apply (listWrites x f c) img → Gave img x out
-    gave-listed l o bs h = o ∙ ap (λ (ws : List Write). apply ws img) (sym (give-listed (pg img) f c (omega (arith, some)) count x bs (first ∙ h .first) (h .bears) l))
+    gave-listed l o bs h = o ∙ ap (λ (ws : List Write). apply ws img) (sym (give-listed (pg img) f c some count x bs (first ∙ h .first) (h .bears) l))
 
     pub gave-full : 252 ≤ c → out ≡ apply (blockWrites x f) img → Gave img x out
-    gave-full l o bs h = o ∙ ap (λ (ws : List Write). apply ws img) (sym (give-full (pg img) f c (omega (arith, some)) count x bs (first ∙ h .first) (h .bears) l))
+    gave-full l o bs h = o ∙ ap (λ (ws : List Write). apply ws img) (sym (give-full (pg img) f c some count x bs (first ∙ h .first) (h .bears) l))
 
 -- the mark and the two numbers of a new block are one write
 pub block-write : (img : List ℕ) (x f : ℕ)

@@ -1,5 +1,5 @@
 -- `pages::claim::all_claimed` meets its contract. The loop's invariant: the rest is full exactly where all is.
-use Prim.Native.Nat.{_-_, _≤_}
+use Prim.Native.Nat.{_-_}
 use native.Mathlib.Omega.{arith}
 use mathlib.Core.Path.{_≡_, refl}
 use lib.ListN.{length, drop}
@@ -7,8 +7,6 @@ use Rattle.pages.specs.Claims.{full}
 use Rattle.pages.proofs.Claims.{full-more, full-not, full-end}
 use Rattle.pages.proofs.claim.all_claimed.Statement.{statement}
 use Rattle.pages.proofs.claim.all_claimed.Tie as tie
-use Rattle.pages.proofs.claim.all_claimed.Reads as reads
-use Rattle.pages.proofs.claim.all_claimed.Lts as lts
 
 abbrev Inv-loop : tie.InvT-loop
 Inv-loop scratch i₀ i = full (drop i scratch) ≡ full scratch

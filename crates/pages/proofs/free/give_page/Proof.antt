@@ -8,7 +8,7 @@ use Rattle.pages.proofs.free.give_page.Tie as tie
 returns : tie.Need-returns
 returns c =
     let s = c .before .before .before .before .before in
-    gave-empty _ (s .get32 .result) (s .get32 .ensures .is) _ (c .before .before .before .before .if1 .taken) (c .before .before .block-page .ensures)
+    gave-empty _ (s .get32 .result) (s .get32 .ensures .is) _ (omega (arith, c .before .before .before .before .if1 .taken)) (c .before .before .block-page .ensures)
 
 get32-requires-2 : tie.Need-get32-requires-2
 get32-requires-2 c κs =
@@ -21,19 +21,19 @@ list-page-requires c κs =
     let s = c .before .before .before .before .before in
     let t = s .before .before .before .pre in
     let i = first-inside (t .free) (t .shown) (s .get32 .result) (s .get32 .ensures .is) (omega (arith, c .before .before .before .before .if1 .left)) 0 1024 (omega arith) in
-    (record { small = i .small; low = t .low; high = t .high; fits = omega arith }, i, c .before .if2 .taken)
+    (record { small = i .small; low = t .low; high = t .high; fits = omega arith }, i, omega (arith, c .before .if2 .taken))
 
 returns-2 : tie.Need-returns-2
 returns-2 c =
     let k = c .before .before .before .before .before in
     let s = k .before .before .before in
-    gave-listed _ (s .get32 .result) (s .get32 .ensures .is) _ (k .get322 .result) (k .get322 .ensures .is) (k .before .before .if1 .left) (c .before .before .before .before .if2 .taken) (c .before .before .list-page .ensures)
+    gave-listed _ (s .get32 .result) (s .get32 .ensures .is) _ (k .get322 .result) (k .get322 .ensures .is) (omega (arith, k .before .before .if1 .left)) (omega (arith, c .before .before .before .before .if2 .taken)) (c .before .before .list-page .ensures)
 
 returns-3 : tie.Need-returns-3
 returns-3 c =
     let k = c .before .before .before .before .before in
     let s = k .before .before .before in
-    gave-full _ (s .get32 .result) (s .get32 .ensures .is) _ (k .get322 .result) (k .get322 .ensures .is) (k .before .before .if1 .left) (c .before .before .before .before .if2 .left) (c .before .before .block-page2 .ensures)
+    gave-full _ (s .get32 .result) (s .get32 .ensures .is) _ (k .get322 .result) (k .get322 .ensures .is) (omega (arith, k .before .before .if1 .left)) (omega (arith, c .before .before .before .before .if2 .left)) (c .before .before .block-page2 .ensures)
 
 pub give-page-spec : {M : Type 1} → statement M
 give-page-spec =

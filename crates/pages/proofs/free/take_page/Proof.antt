@@ -1,14 +1,9 @@
 -- `pages::free::take_page` meets its contract.
 use native.Mathlib.Omega.{arith}
-use denote.Ref.{now}
 use borrow.Author.Needs.{needs}
 use Rattle.pages.proofs.Taking.{take-first, first-inside, count-most, took-block, took-listed}
 use Rattle.pages.proofs.free.take_page.Statement.{statement}
 use Rattle.pages.proofs.free.take_page.Tie as tie
-use Rattle.pages.proofs.free.take_page.Reads as reads
-use Rattle.pages.proofs.free.take_page.Lts as lts
-use Rattle.pages.proofs.read.get32.Reads as get32-reads
-use Rattle.pages.proofs.write.put32.Reads as put32-reads
 
 get32-requires-2 : tie.Need-get32-requires-2
 get32-requires-2 c κs =
@@ -29,7 +24,7 @@ returns c =
     let k = n .before .before .before in
     let s = k .before .before in
     let t = s .before .before .before .pre in
-    took-block t (s .get32 .result) (k .get322 .result) (s .get32 .ensures .is) (k .get322 .ensures .is) _ (n .get323 .result) (n .before .before .if1 .taken) (n .get323 .ensures .is) (c .before .before .put32 .ensures)
+    took-block t (s .get32 .result) (k .get322 .result) (s .get32 .ensures .is) (k .get322 .ensures .is) _ (n .get323 .result) (omega (arith, n .before .before .if1 .taken)) (n .get323 .ensures .is) (c .before .before .put32 .ensures)
 
 get32-requires-4 : tie.Need-get32-requires-4
 get32-requires-4 c κs =
@@ -54,7 +49,7 @@ returns-2 c =
     let k = n .before .before .before in
     let s = k .before .before in
     let t = s .before .before .before .pre in
-    took-listed t (s .get32 .result) (k .get322 .result) (s .get32 .ensures .is) (k .get322 .ensures .is) _ (n .get324 .result) (n .before .before .if1 .left) (n .get324 .ensures .is) (c .before .before .put322 .ensures)
+    took-listed t (s .get32 .result) (k .get322 .result) (s .get32 .ensures .is) (k .get322 .ensures .is) _ (n .get324 .result) (omega (arith, n .before .before .if1 .left)) (n .get324 .ensures .is) (c .before .before .put322 .ensures)
 
 pub take-page-spec : {M : Type 1} → statement M
 take-page-spec =

@@ -5,11 +5,9 @@ use mathlib.Core.List.{[]}
 use lib.ListN.{getD}
 use Rattle.blockfile.specs.Bytes.{pg}
 use Rattle.blockfile.specs.Marks.{marks}
-use Rattle.pages.proofs.Marks.{Matched, matched-none, matched-more, matched-not, matched-all, mark-short}
+use Rattle.pages.proofs.Marks.{Matched, matched-none, matched-more, matched-not, matched-all}
 use Rattle.pages.proofs.mark.bears.Statement.{statement}
 use Rattle.pages.proofs.mark.bears.Tie as tie
-use Rattle.pages.proofs.mark.bears.Reads as reads
-use Rattle.pages.proofs.mark.bears.Lts as lts
 
 abbrev Inv-loop : tie.InvT-loop
 Inv-loop image page kind at n i₀ i = Matched (getD marks kind []) (pg image page) n i

@@ -1,5 +1,4 @@
 -- `pages::write::put_page` meets its contract: four writes side by side are one.
-use native.Mathlib.Omega.{arith}
 use mathlib.Core.List.{[]}
 use lib.ListN.{getD}
 use denote.Ref.{now}
@@ -8,13 +7,6 @@ use Rattle.blockfile.specs.Marks.{marks}
 use Rattle.pages.proofs.Stores.{stream-page}
 use Rattle.pages.proofs.write.put_page.Statement.{statement}
 use Rattle.pages.proofs.write.put_page.Tie as tie
-use Rattle.pages.proofs.write.put_page.Reads as reads
-use Rattle.pages.proofs.write.put_page.Lts as lts
-use Rattle.pages.proofs.write.chunk.Reads as chunk-reads
-use Rattle.pages.proofs.write.put32.Reads as put32-reads
-use Rattle.pages.proofs.write.put_bytes.Reads as put-bytes-reads
-use Rattle.pages.proofs.write.put_mark.Reads as put-mark-reads
-use Rattle.pages.proofs.write.put_zeros.Reads as put-zeros-reads
 
 returns : tie.Need-returns
 returns c =
