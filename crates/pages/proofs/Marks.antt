@@ -13,16 +13,10 @@ use lib.Dec.{T, eqb, leb, eqb→eq, leb→le}
 use Rattle.blockfile.specs.Bytes.{pg}
 use Rattle.blockfile.specs.Marks.{marks, superMark, skipMark, towerMark, spanMark, contMark, blockMark, freeMark}
 use Rattle.blockfile.specs.Order.{same}
+use Rattle.laws.proofs.Bools.{and-both}
+use Rattle.laws.proofs.Orders.{same-eq}
 use Rattle.laws.proofs.Pages.{pg-at, length-pg}
 use Rattle.pages.specs.Begins.{begins, firstMark, kindOf}
-
-both-left : (a b : Bool) → T (a && b) → T a
-both-left true b t = tt
-both-left false b t = t
-
-both-right : (a b : Bool) → T (a && b) → T b
-both-right true b t = t
-both-right false b t = absurd t
 
 -- ---- the table, by one computed test over all kinds
 
@@ -33,15 +27,8 @@ every f (suc n) = f 0 && every (λ k. f (suc k)) n
 
 at : (f : ℕ → Bool) (n : ℕ) → T (every f n) → (k : ℕ) → k < n → T (f k)
 at f zero t k h = absurd (not-suc-le-zero h)
-at f (suc n) t zero h = both-left (f 0) (every (λ k. f (suc k)) n) t
-at f (suc n) t (suc k) h = at (λ k. f (suc k)) n (both-right (f 0) (every (λ k. f (suc k)) n) t) k (le-of-suc-le-suc h)
-
-same-eq : (a b : List ℕ) → T (same a b) → a ≡ b
-same-eq [] [] t = refl
-same-eq [] (y ∷ b) t = absurd t
-same-eq (x ∷ a) [] t = absurd t
-same-eq (x ∷ a) (y ∷ b) t =
-    ap₂ (λ (z : ℕ) (l : List ℕ). z ∷ l) (eqb→eq x y (both-left (eqb x y) (same a b) t)) (same-eq a b (both-right (eqb x y) (same a b) t))
+at f (suc n) t zero h = and-both (f 0) (every (λ k. f (suc k)) n) t .0
+at f (suc n) t (suc k) h = at (λ k. f (suc k)) n (and-both (f 0) (every (λ k. f (suc k)) n) t .1) k (le-of-suc-le-suc h)
 
 -- the tables of the code
 abbrev pub table : List ℕ
@@ -68,17 +55,17 @@ module _ (k : ℕ) (h : k < 7) where
   pub mark-row : take (getD lengths k 0) (drop (8 * k) table) ≡ getD marks k []
   unfolding rowOk
   mark-row = same-eq (take (getD lengths k 0) (drop (8 * k) table)) (getD marks k [])
-      (both-left (same (take (getD lengths k 0) (drop (8 * k) table)) (getD marks k [])) (eqb (length (getD marks k [])) (getD lengths k 0) && leb (getD lengths k 0) 8) (row k h))
+      (and-both (same (take (getD lengths k 0) (drop (8 * k) table)) (getD marks k [])) (eqb (length (getD marks k [])) (getD lengths k 0) && leb (getD lengths k 0) 8) (row k h) .0)
 
   sizes : T (eqb (length (getD marks k [])) (getD lengths k 0) && leb (getD lengths k 0) 8)
   unfolding rowOk
-  sizes = both-right (same (take (getD lengths k 0) (drop (8 * k) table)) (getD marks k [])) (eqb (length (getD marks k [])) (getD lengths k 0) && leb (getD lengths k 0) 8) (row k h)
+  sizes = and-both (same (take (getD lengths k 0) (drop (8 * k) table)) (getD marks k [])) (eqb (length (getD marks k [])) (getD lengths k 0) && leb (getD lengths k 0) 8) (row k h) .1
 
   pub mark-length : length (getD marks k []) ≡ getD lengths k 0
-  mark-length = eqb→eq _ _ (both-left (eqb (length (getD marks k [])) (getD lengths k 0)) (leb (getD lengths k 0) 8) sizes)
+  mark-length = eqb→eq _ _ (and-both (eqb (length (getD marks k [])) (getD lengths k 0)) (leb (getD lengths k 0) 8) sizes .0)
 
   pub mark-short : getD lengths k 0 ≤ 8
-  mark-short = leb→le _ _ (both-right (eqb (length (getD marks k [])) (getD lengths k 0)) (leb (getD lengths k 0) 8) sizes)
+  mark-short = leb→le _ _ (and-both (eqb (length (getD marks k [])) (getD lengths k 0)) (leb (getD lengths k 0) 8) sizes .1)
 
   pub mark-at : (i : ℕ) → i < getD lengths k 0 → getD table (8 * k + i) 0 ≡ getD (getD marks k []) i 0
   mark-at i l = sym (ap (λ (m : List ℕ). getD m i 0) (sym mark-row) ∙ getD-take (getD lengths k 0) (drop (8 * k) table) i 0 l ∙ getD-drop (8 * k) table i 0)

@@ -15,6 +15,7 @@ use Rattle.blockfile.specs.WellFormed.{count}
 use Rattle.laws.proofs.Bools.{so, not-so, holds, and-both, both-and, within-is, bit-true, bit-low}
 use Rattle.laws.proofs.Count.{count-here, count-more}
 use Rattle.pages.specs.Claims.{claimed, full}
+use Rattle.pages.proofs.Claims.{full-at, full-of}
 use Rattle.walks.specs.Found.{Open, Fresh, claims}
 use Rattle.walks.proofs.Founds.{length-claimed, length-claims}
 
@@ -81,20 +82,6 @@ claims-in scr (m ∷ ns) n f h =
     claims-out (claimed scr m) ns n (f .1) (omega arith) (omega arith)
     ∙ subst (λ (x : ℕ). getD (claimed scr m) (x - 1) 0 ≡ 1) (sym e) (claimed-same scr m (omega arith)))
 
-full-at : (s : List ℕ) → full s ≡ true → (i : ℕ) → i < length s → getD s i 0 ≡ 0 → ⊥
-unfolding full
-full-at [] e i h z = omega arith
-full-at (x ∷ s) e i h z = go i h z (and-both (not (eqb x 0)) (full s) (holds _ e)) (full-at s)
-  where
-    go : (i : ℕ) → i < suc (length s) → getD (x ∷ s) i 0 ≡ 0 → T (not (eqb x 0)) × T (full s) → (full s ≡ true → (i : ℕ) → i < length s → getD s i 0 ≡ 0 → ⊥) → ⊥
-    go zero h z t ih = subst (λ (b : Bool). T (not b)) (eq-eqb x 0 z) (t .0)
-    go (suc i) h z t ih = ih (so (full s) (t .1)) i (omega arith) z
-
-at-full : (s : List ℕ) → ((i : ℕ) → i < length s → getD s i 0 ≡ 0 → ⊥) → full s ≡ true
-unfolding full
-at-full [] h = refl
-at-full (x ∷ s) h = so (not (eqb x 0) && full s) (both-and (not (eqb x 0)) (full s) (rw (ne-eqb x 0 (h 0 (omega arith))) tt) (holds (full s) (at-full s (λ i l. h (suc i) (omega arith)))))
-
 -- ---- Each of the p pages once, and no other
 
 module _ (p : ℕ) (ns : List ℕ) where
@@ -115,7 +102,7 @@ module _ (p : ℕ) (ns : List ℕ) where
 
   pub once-claimed : ((n : ℕ) → count n ns ≡ cond (within 1 p n) 1 0) → Fresh (replicate p 0) ns × (full (claims (replicate p 0) ns) ≡ true)
   once-claimed h =
-      (fresh, at-full (claims (replicate p 0) ns) (λ i l z. omega (arith, subst (λ (x : ℕ). getD (claims (replicate p 0) ns) x 0 ≡ 1) (at i) (claims-in (replicate p 0) ns (suc i) fresh (here i l)), z)))
+      (fresh, full-of (claims (replicate p 0) ns) (λ i l z. omega (arith, subst (λ (x : ℕ). getD (claims (replicate p 0) ns) x 0 ≡ 1) (at i) (claims-in (replicate p 0) ns (suc i) fresh (here i l)), z)))
     where
       at : (i : ℕ) → suc i - 1 ≡ i
       at i = omega arith
