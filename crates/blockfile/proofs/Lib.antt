@@ -1,0 +1,9 @@
+pub mod Marked
+pub mod Tested
+pub mod Samples
+pub mod Card
+pub mod Changes
+pub mod Reading
+pub mod Read
+pub mod Altered
+pub mod Rejected
