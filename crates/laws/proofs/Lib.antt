@@ -9,8 +9,20 @@ pub mod Owned
 pub mod FreeRead
 pub mod Orders
 pub mod Maps
+pub mod Middle
+pub mod Places
+pub mod Targets
+pub mod Columns
 pub mod Positions
 pub mod Streams
+pub mod Splits
+pub mod Rewritten
+pub mod TablePut
+pub mod TableRemove
+pub mod Sizes
+pub mod TableCreate
+pub mod Allowed
+pub mod Room
 pub mod Chains
 pub mod Unique
 pub mod Determined
@@ -21,4 +33,5 @@ pub mod Written
 pub mod Edits
 pub mod Encodes
 pub mod Draws
+pub mod Ledgers
 pub mod Remembers
