@@ -8,7 +8,8 @@ use lib.ListN.{length, length-append, length-take, length-drop}
 use lib.Dec.{T, leb, leb→le}
 use Rattle.blockfile.specs.Bytes.{Write, Every}
 use Rattle.blockfile.specs.WellFormed.{Accepted, Rejected}
-use Rattle.blockfile.proofs.Tested.{Rule, both, all, null}
+use Rattle.blockfile.proofs.Bools.{and-both}
+use Rattle.blockfile.proofs.Tested.{Rule, all, null}
 use Rattle.blockfile.proofs.Samples.{overlay}
 use Rattle.blockfile.proofs.Reading.{broken, brokenOn, joined, Full, pageIn}
 use Rattle.blockfile.proofs.Read.{broken-joined, rejects, accepts}
@@ -58,7 +59,7 @@ changed-length (suc (suc n)) o bs (p ∷ ps) = ap suc (changed-length (suc n) o 
 altered-full : (cs : List Write) (ps : List (List ℕ)) → T (inRange cs) → Full ps → Full (altered cs ps)
 altered-full [] ps h f = f
 altered-full (c ∷ cs) ps h f =
-    let k : T (leb (c .offset + length (c .bytes)) 1024) × T (inRange cs) = both (leb (c .offset + length (c .bytes)) 1024) (inRange cs) h in
+    let k : T (leb (c .offset + length (c .bytes)) 1024) × T (inRange cs) = and-both (leb (c .offset + length (c .bytes)) 1024) (inRange cs) h in
     altered-full cs (changed (c .page) (c .offset) (c .bytes) ps) (k .1) (changed-full (c .page) (c .offset) (c .bytes) ps (leb→le _ _ (k .0)) f)
 
 altered-length : (cs : List Write) (ps : List (List ℕ)) → length (altered cs ps) ≡ length ps
@@ -81,8 +82,8 @@ module _ (pages : List (List ℕ)) (full : Full pages) where
   pub rejections : (rs : List Row) → map (λ (r : Row). brokenBy pages (r .0)) rs ≡ map (λ (r : Row). r .1) rs → T (all proper rs) → Rejections pages rs
   rejections [] e h = tt
   rejections (r ∷ rs) e h =
-      let k : T (proper r) × T (all proper rs) = both (proper r) (all proper rs) h in
-      let p : T (inRange (r .0)) × T (not (null (r .1))) = both (inRange (r .0)) (not (null (r .1))) (k .0) in
+      let k : T (proper r) × T (all proper rs) = and-both (proper r) (all proper rs) h in
+      let p : T (inRange (r .0)) × T (not (null (r .1))) = and-both (inRange (r .0)) (not (null (r .1))) (k .0) in
       (go (r .1) (brokenBy-image (r .0) (p .0) ∙ head-eq-of-cons-eq e) (p .1), rejections rs (tail-eq-of-cons-eq e) (k .1))
     where
       go : (xs : List Rule) → broken (imageOf pages (r .0)) ≡ xs → T (not (null xs)) → Rejected (imageOf pages (r .0))
@@ -93,5 +94,5 @@ module _ (pages : List (List ℕ)) (full : Full pages) where
   pub acceptances : (cs : List (List Write)) → map (brokenBy pages) cs ≡ map (λ (c : List Write). []) cs → T (all inRange cs) → Every (λ c. Accepted (imageOf pages c)) cs
   acceptances [] e h = tt
   acceptances (c ∷ cs) e h =
-      let k : T (inRange c) × T (all inRange cs) = both (inRange c) (all inRange cs) h in
+      let k : T (inRange c) × T (all inRange cs) = and-both (inRange c) (all inRange cs) h in
       (accepts (imageOf pages c) (brokenBy-image c (k .0) ∙ head-eq-of-cons-eq e), acceptances cs (tail-eq-of-cons-eq e) (k .1))

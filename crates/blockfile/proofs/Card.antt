@@ -19,7 +19,8 @@ use Rattle.blockfile.specs.Put.{parts, target, spanAt, wantedBy, share, 
 use Rattle.blockfile.specs.Create.{createPlan, wholeTable}
 use Rattle.blockfile.specs.Refusals.{check, create, plain, ledgerOf, refused}
 use Rattle.blockfile.specs.Answers.{outcomeOn}
-use Rattle.blockfile.proofs.Tested.{both, tested}
+use Rattle.blockfile.proofs.Bools.{and-both}
+use Rattle.blockfile.proofs.Tested.{tested}
 use Rattle.blockfile.proofs.Samples.{overlay, page, superPage, skipPage, towerPage, spanPage, blockPage, freePage, entryBytes, spanOf, towerOf, tableOf, blockOf, lens}
 
 -- ---- An empty metaindex on pages 2 to 4, and page 5 a free-list block listing 6, 7, 8
@@ -101,7 +102,7 @@ overlaid : (p o : ℕ) (bs img : List ℕ) → T (leb 1 p && leb (1024 * (p - 1)
     → write img p o bs ≡ overlay (1024 * (p - 1) + o) bs img
 unfolding write
 overlaid zero o bs img h = absurd h
-overlaid (suc k) o bs img h = go (suc k - 1) (omega arith) (both (leb 1 (suc k)) _ h .1)
+overlaid (suc k) o bs img h = go (suc k - 1) (omega arith) (and-both (leb 1 (suc k)) _ h .1)
   where
     go : (j : ℕ) → j ≡ k → T (leb (1024 * j + o + length bs) (length img)) → sets img (1024 * k + o) bs ≡ overlay (1024 * j + o) bs img
     go j e x = subst (λ (i : ℕ). sets img (1024 * i + o) bs ≡ overlay (1024 * j + o) bs img) e (sets-eq bs img (1024 * j + o) (leb→le _ _ x))
@@ -115,10 +116,10 @@ quickly : (ws : List Write) (img : List ℕ) → T (fits (length img) ws) → ap
 quickly [] img h = refl
 quickly (w ∷ ws) img h =
     let e : write img (w .page) (w .offset) (w .bytes) ≡ overlay (start w) (w .bytes) img
-    = overlaid (w .page) (w .offset) (w .bytes) img (both (inRange (length img) w) _ h .0) in
+    = overlaid (w .page) (w .offset) (w .bytes) img (and-both (inRange (length img) w) _ h .0) in
     ap (apply ws) e
     ∙ quickly ws (overlay (start w) (w .bytes) img)
-    (subst (λ (n : ℕ). T (fits n ws)) (sym (ap length (sym e) ∙ long (w .page) (w .offset) (w .bytes) img)) (both (inRange (length img) w) _ h .1))
+    (subst (λ (n : ℕ). T (fits n ws)) (sym (ap length (sym e) ∙ long (w .page) (w .offset) (w .bytes) img)) (and-both (inRange (length img) w) _ h .1))
 
 -- all 8,192 bytes after it
 abbrev imageWithLens : List ℕ

@@ -2,7 +2,7 @@
 use Prim.Native.Nat.{ℕ}
 use mathlib.Core.Path.{_≡_, refl}
 use mathlib.Core.List.{List, [], _∷_, _++_, map}
-use lib.ListN.{length, replicate}
+use lib.ListN.{replicate}
 use lib.Count.{trailingZeros}
 use Rattle.blockfile.specs.Bytes.{pg, be16, be32, be64, word16, word32, Write, on}
 use Rattle.blockfile.specs.Marks.{superMark, skipMark, towerMark, spanMark, contMark, blockMark, freeMark}

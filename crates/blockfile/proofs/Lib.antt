@@ -1,3 +1,7 @@
+pub mod Bools
+pub mod Every
+pub mod Count
+pub mod Owned
 pub mod Marked
 pub mod Tested
 pub mod Samples

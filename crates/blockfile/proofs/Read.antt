@@ -3,30 +3,30 @@
 use Prim.Native.Nat.{ℕ, zero, suc, _+_, _*_, _/_, _<_, _≤_}
 use native.Mathlib.Omega.{arith}
 use mathlib.Core.Path.{_≡_, refl, ap, ap₂, sym, _∙_, subst}
-use mathlib.Core.List.{List, [], _∷_, _++_, map, append-assoc, head-eq-of-cons-eq, nil≢cons, cons≢nil}
+use mathlib.Core.List.{List, [], _∷_, _++_, map, head-eq-of-cons-eq, nil≢cons, cons≢nil}
 use mathlib.Core.Option.{Option, none, some}
 use mathlib.Core.Bool.{Bool, true, false, cond}
 use lib.ListN.{length, take, drop, length-append}
 use lib.Seq.{slice, take-at, take-nil, drop-nil, drop-append-add}
 use lib.Dec.{T, eqb, ltb, eqb→eq, eqb-refl, lt→ltb}
 use Rattle.blockfile.specs.Bytes.{pg, be16, be32, word32, Every, gather, from, firstOf}
-use Rattle.blockfile.specs.Layout.{Keyed, Entry, Span, Tower, Column, Table, Block, Layout, columns, spansOf, towersOf, towerIn, entriesOf, entriesFrom, lensAt, entryEnd}
+use Rattle.blockfile.specs.Layout.{Keyed, Entry, Span, Tower, Column, Table, Block, Layout, spansOf, towersOf, towerIn, entriesOf, entriesFrom, lensAt, entryEnd}
 use Rattle.blockfile.specs.Order.{KeyRule, nameRule, keyRule, Within, within}
 use Rattle.blockfile.specs.Fields.{LinkedSpan, LinkedTower, Numbers, EntriesAt, AreConts}
-use Rattle.blockfile.specs.WellFormed.{Piece, span, tower, freePage, skipList, Bears, pagesOf, freePieces, linkSpans, linkTowers, nextAt, skipListOf, spansIn, towersIn, tablePieces, pieces, count, TableOk, WellFormed, Accepted, Rejected}
-use Rattle.blockfile.proofs.Tested.{Rule, Passed, Once, counted, once-small, failed, j-image}
+use Rattle.blockfile.specs.WellFormed.{Piece, span, tower, freePage, skipList, Bears, freePieces, linkSpans, linkTowers, nextAt, skipListOf, spansIn, towersIn, tablePieces, pieces, count, TableOk, WellFormed, Accepted, Rejected}
+use Rattle.blockfile.proofs.Every.{every-left, every-right}
+use Rattle.blockfile.proofs.Count.{Positive, count-here, count-append}
+use Rattle.blockfile.proofs.Owned.{ownedBy, owned-append}
+use Rattle.blockfile.proofs.Tested.{Rule, Passed, Once, once-small, failed, j-image}
 use Rattle.blockfile.proofs.Reading.{chain, readNumbers, readEntry, readEntries, follow, readBlock, stream, readSpan, readTower, otherTowers, towerHere, towersLeft, readColumns, readTable, readLayout, brokenOn, broken, joined, Full, pageIn}
 
 -- ---- A chain of pages, none 0, at most k
-
-abbrev Some : List ℕ → Type 0
-Some ns = Every (λ n. 1 ≤ n) ns
 
 abbrev Linked : (next : ℕ → ℕ) → List ℕ → Type 0
 Linked next [] = Unit {0}
 Linked next (p ∷ ps) = (next p ≡ firstOf ps) × Linked next ps
 
-chained : (next : ℕ → ℕ) (k : ℕ) (ps : List ℕ) → Some ps → Linked next ps → length ps ≤ k → chain next k (firstOf ps) ≡ ps
+chained : (next : ℕ → ℕ) (k : ℕ) (ps : List ℕ) → Positive ps → Linked next ps → length ps ≤ k → chain next k (firstOf ps) ≡ ps
 chained next zero [] s l h = refl
 chained next (suc k) [] s l h = refl
 chained next zero (p ∷ ps) s l h = absurd (omega arith)
@@ -56,28 +56,8 @@ entriesRead s v (e ∷ es) h =
 
 -- ---- Pieces own pages: none 0, none twice, at most k
 
-module _ {A : Type 0} (R : A → Type 0) where
-  every-left : (xs ys : List A) → Every R (xs ++ ys) → Every R xs
-  every-left [] ys h = tt
-  every-left (x ∷ xs) ys h = (h .0, every-left xs ys (h .1))
-
-  pub every-right : (xs ys : List A) → Every R (xs ++ ys) → Every R ys
-  every-right [] ys h = h
-  every-right (x ∷ xs) ys h = every-right xs ys (h .1)
-
-count-append : (n : ℕ) (xs ys : List ℕ) → count n (xs ++ ys) ≡ count n xs + count n ys
-count-append n [] ys = omega arith
-count-append n (x ∷ xs) ys = let h : count n (xs ++ ys) ≡ count n xs + count n ys = count-append n xs ys in omega arith
-
-abbrev ownedBy : List Piece → List ℕ
-ownedBy ps = gather pagesOf ps
-
-owned-append : (ps qs : List Piece) → ownedBy (ps ++ qs) ≡ ownedBy ps ++ ownedBy qs
-owned-append [] qs = refl
-owned-append (p ∷ ps) qs = ap (λ (l : List ℕ). pagesOf p ++ l) (owned-append ps qs) ∙ sym (append-assoc (pagesOf p) (ownedBy ps) (ownedBy qs))
-
 record Clean (k : ℕ) (ns : List ℕ) : Type 0 where
-  pub some : Some ns
+  pub some : Positive ns
   pub once : (n : ℕ) → count n ns ≤ 1
   pub few : length ns ≤ k
 
@@ -107,7 +87,7 @@ second-of k ps qs c = clean-right k (ownedBy ps) (ownedBy qs) (subst (Clean k) (
 
 -- ms are some of the ns, in number at most as often
 record Part (ms ns : List ℕ) : Type 0 where
-  pub some : Some ns → Some ms
+  pub some : Positive ns → Positive ms
   pub once : (n : ℕ) → count n ms ≤ count n ns
   pub few : length ms ≤ length ns
 
@@ -256,7 +236,7 @@ module _ (g : ℕ → List ℕ) (k : ℕ) where
       go (some t) b e ih =
           let p : be32 (g w) 12 ≡ c .span .page = ap (λ (m : ℕ). be32 (g m) 12) (sym (head-eq-of-cons-eq e)) ∙ b .0 .spanPage in
           subst (λ (m : ℕ). 1 ≤ count m (c .span .page ∷ spanPages (spansOf cs))) (sym p)
-          (omega (arith, counted (c .span .page) (spanPages (spansOf cs))))
+          (omega (arith, count-here (c .span .page) (spanPages (spansOf cs))))
 
   -- a span without a tower is passed by
   passedBy : (q : ℕ) (ws : List ℕ) → ((w : ℕ) (vs : List ℕ) → ws ≡ w ∷ vs → be32 (g w) 12 ≡ q → ⊥) → (none ≡ towerHere g k q ws) × (ws ≡ towersLeft g k q ws)
@@ -280,7 +260,7 @@ module _ (g : ℕ → List ℕ) (k : ℕ) where
       apart b w vs e x =
           let y : 1 ≤ count q (spanPages (spansOf cs)) = subst (λ (m : ℕ). 1 ≤ count m (spanPages (spansOf cs))) x (owner cs b w vs e) in
           let z : count q (q ∷ spanPages (spansOf cs)) ≤ 1 = o q in
-          omega (arith, counted q (spanPages (spansOf cs)))
+          omega (arith, count-here q (spanPages (spansOf cs)))
 
       go : (t : Option Tower) → Raised q t cs
           → (Every (Bears g) (map tower (linkTowers cs)) → ((n : ℕ) → count n (spanPages (spansOf cs)) ≤ 1) → cs ≡ readColumns g k (spansOf cs) (towerPages (towersOf cs)))
@@ -391,9 +371,9 @@ bit : (b : Bool) → cond b 1 0 ≤ 1
 bit true = omega arith
 bit false = omega arith
 
-no-zero : (ns : List ℕ) → count 0 ns ≡ 0 → Some ns
+no-zero : (ns : List ℕ) → count 0 ns ≡ 0 → Positive ns
 no-zero [] h = tt
-no-zero (zero ∷ ns) h = absurd (omega (arith, counted 0 ns))
+no-zero (zero ∷ ns) h = absurd (omega (arith, count-here 0 ns))
 no-zero (suc n ∷ ns) h = (omega arith, no-zero ns (omega arith))
 
 once-clean : (p : ℕ) (ms : List ℕ) → Once p ms → Clean p ms

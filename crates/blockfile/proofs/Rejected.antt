@@ -12,10 +12,11 @@ use Rattle.blockfile.specs.Layout.{Block, lensAt, entryEnd, reached}
 use Rattle.blockfile.specs.Order.{Within, within, nameRule, keyRule}
 use Rattle.blockfile.specs.WellFormed.{Piece, Bears, firstBlock, freePieces, tablePieces, Accepted, Rejected}
 use Rattle.blockfile.specs.Calls.{lengthOk}
-use Rattle.blockfile.proofs.Tested.{namesRule, onceRule, superRule, skipRule, towerRule, spanRule, blockRule, freeRule, spanSizeRule, sizeRule, filledRule, reachRule, allowedRule, risingRule, heightRule, otherRule, join, t-every, t-eq}
+use Rattle.blockfile.proofs.Tested.{namesRule, onceRule, superRule, skipRule, towerRule, spanRule, blockRule, freeRule, spanSizeRule, sizeRule, filledRule, reachRule, allowedRule, risingRule, heightRule, otherRule, t-every, t-eq}
 use Rattle.blockfile.proofs.Samples.{superPage, skipPage, towerPage, spanPage, blockPage, freePage, entryBytes, lens}
 use Rattle.blockfile.proofs.Reading.{Full}
-use Rattle.blockfile.proofs.Read.{every-right}
+use Rattle.blockfile.proofs.Bools.{both-and}
+use Rattle.blockfile.proofs.Every.{every-right}
 use Rattle.blockfile.proofs.Altered.{Row, imageOf, Rejections, rejections, acceptances}
 
 -- ---- The image that is changed: 18 pages
@@ -281,7 +282,7 @@ badLength img e L w =
     let n : ℕ = length img / 1024 in
     let r : length img % 1024 ≡ 0 = omega arith in
     subst T e
-    (join (within 4 4096 n) (eqb (length img % 1024) 0) (join (leb 4 n) (leb n 4096) (le→leb 4 n (omega arith)) (le→leb n 4096 (omega arith)))
+    (both-and (within 4 4096 n) (eqb (length img % 1024) 0) (both-and (leb 4 n) (leb n 4096) (le→leb 4 n (omega arith)) (le→leb n 4096 (omega arith)))
     (subst (λ (k : ℕ). T (eqb k 0)) (sym r) tt))
 
 lengths : map lengthOk (0 ∷ 3072 ∷ 4096 ∷ 18431 ∷ 18432 ∷ 18433 ∷ 4194304 ∷ 4195328 ∷ [])

@@ -14,6 +14,8 @@ use Rattle.blockfile.specs.Layout.{Entry, Table, Layout, columns, spansO
 use Rattle.blockfile.specs.Order.{KeyRule, nameRule, keyRule, Within, within, same, Rising}
 use Rattle.blockfile.specs.Fields.{SkipList, LinkedSpan, LinkedTower, IsSuperblock, IsSkipList, IsTower, IsSpan, IsBlock, Numbers, EntriesAt, AreConts}
 use Rattle.blockfile.specs.WellFormed.{Piece, superblock, skipList, tower, span, block, freePage, pagesOf, Bears, pieces, TableOk, count, WellFormed}
+use Rattle.blockfile.proofs.Bools.{and-both, both-and, same-refl, same-eq}
+use Rattle.blockfile.proofs.Count.{every-counted}
 
 -- ---- A test that holds exactly where A does
 
@@ -21,16 +23,6 @@ pub record Tested (A : Type 0) : Type 0 where
   pub test : Bool
   pub sound : T test → A
   pub complete : A → T test
-
-pub both : (a b : Bool) → T (a && b) → T a × T b
-both true true h = (tt, tt)
-both true false h = absurd h
-both false b h = absurd h
-
-pub join : (a b : Bool) → T a → T b → T (a && b)
-join true true h k = tt
-join true false h k = absurd k
-join false b h k = absurd h
 
 abbrev pub t-self : (b : Bool) → Tested (T b)
 t-self b = record { test = b; sound = λ h. h; complete = λ h. h }
@@ -42,8 +34,8 @@ abbrev pub t-and : {A B : Type 0} → Tested A → Tested B → Tested (A × B)
 t-and p q =
     record {
       test = p .test && q .test;
-      sound = λ h. (p .sound (both (p .test) (q .test) h .0), q .sound (both (p .test) (q .test) h .1));
-      complete = λ h. join (p .test) (q .test) (p .complete (h .0)) (q .complete (h .1));
+      sound = λ h. (p .sound (and-both (p .test) (q .test) h .0), q .sound (and-both (p .test) (q .test) h .1));
+      complete = λ h. both-and (p .test) (q .test) (p .complete (h .0)) (q .complete (h .1));
     }
 
 abbrev pub t-every : {A : Type 0} {R : A → Type 0} → ((x : A) → Tested (R x)) → (xs : List A) → Tested (Every R xs)
@@ -59,19 +51,8 @@ t-le m n = record { test = leb m n; sound = leb→le m n; complete = le→leb m 
 abbrev t-within : (lo hi n : ℕ) → Tested (Within lo hi n)
 t-within lo hi n = t-and (t-le lo n) (t-le n hi)
 
-pub same→eq : (xs ys : List ℕ) → T (same xs ys) → xs ≡ ys
-same→eq [] [] h = refl
-same→eq [] (y ∷ ys) h = absurd h
-same→eq (x ∷ xs) [] h = absurd h
-same→eq (x ∷ xs) (y ∷ ys) h =
-    ap₂ (λ (a : ℕ) (l : List ℕ). a ∷ l) (eqb→eq x y (both (eqb x y) (same xs ys) h .0)) (same→eq xs ys (both (eqb x y) (same xs ys) h .1))
-
-pub same-refl : (xs : List ℕ) → T (same xs xs)
-same-refl [] = tt
-same-refl (x ∷ xs) = join (eqb x x) (same xs xs) (eqb-refl x) (same-refl xs)
-
 abbrev t-same : (xs ys : List ℕ) → Tested (xs ≡ ys)
-t-same xs ys = record { test = same xs ys; sound = same→eq xs ys; complete = λ e. subst (λ (zs : List ℕ). T (same xs zs)) e (same-refl xs) }
+t-same xs ys = record { test = same xs ys; sound = same-eq xs ys; complete = λ e. subst (λ (zs : List ℕ). T (same xs zs)) e (same-refl xs) }
 
 -- what is read, beside what it has to be
 abbrev t-fields : (ps : List (ℕ × ℕ)) → Tested (Every (λ p. p .0 ≡ p .1) ps)
@@ -233,7 +214,7 @@ t-list (x ∷ xs) (y ∷ ys) =
     t-as (t-and (t-entry x y) (t-list xs ys)) (λ h. ap₂ (λ (z : Entry) (zs : List Entry). z ∷ zs) (h .0) (h .1))
     (λ e. (head-eq-of-cons-eq e, tail-eq-of-cons-eq e))
 
--- each page once: the pages up to P are counted, and all are at most P
+-- each page once: the pages up to P are count-here, and all are at most P
 every-from : (R : ℕ → Type 0) (i k : ℕ) → Every R (from i k) → (n : ℕ) → i ≤ n → n < i + k → R n
 every-from R i zero h n l u = absurd (omega arith)
 every-from R i (suc k) h n l u = go (decLe (suc i) n) (every-from R (suc i) k (h .1) n)
@@ -245,13 +226,6 @@ every-from R i (suc k) h n l u = go (decLe (suc i) n) (every-from R (suc i) k (h
 pub every-of : (R : ℕ → Type 0) → ((n : ℕ) → R n) → (ns : List ℕ) → Every R ns
 every-of R f [] = tt
 every-of R f (n ∷ ns) = (f n, every-of R f ns)
-
-so : (b : Bool) → T b → b ≡ true
-so true h = refl
-so false h = absurd h
-
-pub counted : (n : ℕ) (ns : List ℕ) → count n (n ∷ ns) ≡ 1 + count n ns
-counted n ns = rw (so (eqb n n) (eqb-refl n))
 
 count-big : (p n : ℕ) (ms : List ℕ) → p < n → Every (λ m. m ≤ p) ms → count n ms ≡ 0
 count-big p n [] l e = refl
@@ -265,22 +239,15 @@ beyond : (p n : ℕ) → p < n → _≡_ {A = ℕ} (cond (within 1 p n) 1 0) 0
 beyond p n l = go (within 1 p n) refl
   where
     go : (b : Bool) → within 1 p n ≡ b → _≡_ {A = ℕ} (cond b 1 0) 0
-    go true q = absurd (let x : n ≤ p = leb→le n p (both (leb 1 n) (leb n p) (subst T (sym q) tt) .1) in omega arith)
+    go true q = absurd (let x : n ≤ p = leb→le n p (and-both (leb 1 n) (leb n p) (subst T (sym q) tt) .1) in omega arith)
     go false q = refl
 
 inside : (p n : ℕ) → 1 ≤ cond (within 1 p n) 1 0 → n ≤ p
 inside p n h = go (within 1 p n) refl h
   where
     go : (b : Bool) → within 1 p n ≡ b → 1 ≤ cond b 1 0 → n ≤ p
-    go true q h = leb→le n p (both (leb 1 n) (leb n p) (subst T (sym q) tt) .1)
+    go true q h = leb→le n p (and-both (leb 1 n) (leb n p) (subst T (sym q) tt) .1)
     go false q h = absurd (omega arith)
-
-pub every-counted : (R : ℕ → Type 0) (ms : List ℕ) → ((n : ℕ) → 1 ≤ count n ms → R n) → Every R ms
-every-counted R [] h = tt
-every-counted R (m ∷ ms) h = (
-  h m (let e : count m (m ∷ ms) ≡ 1 + count m ms = counted m ms in omega arith),
-  every-counted R ms (λ n l. h n (let e : count n (m ∷ ms) ≡ cond (eqb n m) 1 0 + count n ms = refl in omega arith)),
-)
 
 abbrev pub Once : ℕ → List ℕ → Type 0
 Once p ms = (n : ℕ) → count n ms ≡ cond (within 1 p n) 1 0
@@ -348,7 +315,7 @@ passes vs = all (λ v. v .1) vs
 
 pub passed : (vs : List (Rule × Bool)) → T (passes vs) → Passed vs
 passed [] h = tt
-passed (v ∷ vs) h = (both (v .1) (passes vs) h .0, passed vs (both (v .1) (passes vs) h .1))
+passed (v ∷ vs) h = (and-both (v .1) (passes vs) h .0, passed vs (and-both (v .1) (passes vs) h .1))
 
 pub tested : (img : List ℕ) (L : Layout) → T (passes (j-image img L .verdicts)) → WellFormed img L
 tested img L h = j-image img L .sound (passed (j-image img L .verdicts) h)

@@ -13,7 +13,7 @@ use Rattle.blockfile.specs.Bytes.{Every}
 use Rattle.blockfile.specs.Layout.{Entry, Table, Layout, entriesOf}
 use Rattle.blockfile.specs.Order.{nameRule, keyRule, find, there}
 use Rattle.blockfile.specs.Refusals.{Op, put, remove, create, Ledger, ledgerOf, mapOf, badName, badKey, noTable, rows, lowest, refused}
-use Rattle.laws.proofs.Bools.{holds}
+use Rattle.blockfile.proofs.Bools.{holds}
 use Rattle.laws.proofs.Middle.{find-under}
 
 -- no row refuses: no row's test holds

@@ -1,6 +1,6 @@
 -- Towers in the bytes: the chain from the head along entry i visits exactly the other towers with current above i, in span
 -- order, and ends in 0.
-use Prim.Native.Nat.{ℕ, zero, suc, _+_, _*_, _<_, _≤_}
+use Prim.Native.Nat.{ℕ, zero, suc, _+_, _*_, _<_}
 use native.Mathlib.Omega.{arith}
 use native.Mathlib.Nat.{zero-add}
 use mathlib.Core.Path.{_≡_, refl, ap, sym, _∙_, subst}
@@ -10,7 +10,7 @@ use mathlib.Core.Option.{Option, none, some}
 use lib.Dec.{ltb}
 use borrow.Author.Tests.{ltb-true}
 use Rattle.blockfile.specs.Bytes.{be32, Every, from}
-use Rattle.blockfile.specs.Layout.{Tower, Column, Table, columns, towersOf, towerIn}
+use Rattle.blockfile.specs.Layout.{Tower, Column, Table, towersOf, towerIn}
 use Rattle.blockfile.specs.Fields.{LinkedTower, Numbers}
 use Rattle.blockfile.specs.WellFormed.{Bears, tower, nextAt, linkTowers, towersIn}
 

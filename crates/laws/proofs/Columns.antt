@@ -9,7 +9,7 @@ use Rattle.blockfile.specs.Layout.{Entry, Span, Tower, Column, Table, columns, 
 use Rattle.blockfile.specs.Order.{KeyRule, Within, Rising, insert, erase}
 use Rattle.blockfile.specs.WellFormed.{TableOk}
 use Rattle.blockfile.specs.Put.{spanAt}
-use Rattle.laws.proofs.Every.{every-left, every-right, every-join}
+use Rattle.blockfile.proofs.Every.{every-left, every-right, every-join}
 use Rattle.laws.proofs.Orders.{Ordered}
 use Rattle.laws.proofs.Maps.{insert-rising, erase-rising}
 use Rattle.laws.proofs.Middle.{every-insert, every-erase}

@@ -1,5 +1,5 @@
 -- A call's promise determines its numbers and every byte that it leaves.
-use Prim.Native.Nat.{ℕ, _<_, _≤_}
+use Prim.Native.Nat.{ℕ}
 use native.Mathlib.Omega.{arith}
 use mathlib.Core.Path.{_≡_, ap, sym, _∙_}
 use mathlib.Core.List.{List}
@@ -9,7 +9,7 @@ use Rattle.blockfile.specs.Bytes.{apply}
 use Rattle.blockfile.specs.Layout.{Layout}
 use Rattle.blockfile.specs.Refusals.{Op, Reply}
 use Rattle.blockfile.specs.Answers.{Outcome, outcomeOn}
-use Rattle.blockfile.specs.Calls.{lengthOk, answered, Called, bad-length, short-scratch, malformed, accepted, Keeps}
+use Rattle.blockfile.specs.Calls.{answered, Called, bad-length, short-scratch, malformed, accepted, Keeps}
 use Rattle.laws.proofs.Unique.{unique}
 
 split : (b : Bool) → b ≡ true → b ≡ false → ⊥

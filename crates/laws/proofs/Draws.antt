@@ -15,11 +15,11 @@ use Rattle.blockfile.specs.Order.{Within}
 use Rattle.blockfile.specs.Fields.{SkipList, LinkedSpan, LinkedTower}
 use Rattle.blockfile.specs.WellFormed.{Piece, superblock, block, freePage, freePieces, firstBlock, count}
 use Rattle.blockfile.specs.Free.{Drawn, takeFrom, takePage, listPage, newBlock, givePage, takeMany, giveMany, andThen, draw}
-use Rattle.laws.proofs.Count.{count-here, count-append}
+use Rattle.blockfile.proofs.Count.{count-here, count-append}
 use Rattle.laws.proofs.Numbers.{length-word32}
 use Rattle.laws.proofs.Pages.{be32-write-same}
 use Rattle.laws.proofs.Writes.{apply-append}
-use Rattle.laws.proofs.Owned.{ownedBy}
+use Rattle.blockfile.proofs.Owned.{ownedBy}
 use Rattle.laws.proofs.State.{Shows}
 use Rattle.laws.proofs.Steps.{Holds, in-range, lies-in, piece-owned, piece-within, in-hand, release, adopt, edit}
 use Rattle.laws.proofs.Opens.{held, thingPieces, allPieces, to-pieces, from-pieces}

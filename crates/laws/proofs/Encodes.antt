@@ -15,7 +15,7 @@ use Rattle.blockfile.specs.Layout.{Entry, Block, entriesFrom, lensAt, entryEnd,
 use Rattle.blockfile.specs.Fields.{SkipList, LinkedSpan, LinkedTower, IsSkipList, IsTower, IsSpan, Numbers, EntriesAt, AreConts}
 use Rattle.blockfile.specs.WellFormed.{Piece, skipList, tower, span, count}
 use Rattle.blockfile.specs.Encode.{entriesBytes, streamPages, wholeSpan, wholeTower, counts, wholeSkipList}
-use Rattle.laws.proofs.Count.{count-here, count-append, not-first}
+use Rattle.blockfile.proofs.Count.{count-here, count-append, not-first}
 use Rattle.laws.proofs.Numbers.{be16-left, be32-left, be16-right, be32-right, be16-word16, be32-word32, length-word16, length-word32}
 use Rattle.laws.proofs.Pages.{pg-write-whole, pg-write-other, length-padded}
 use Rattle.laws.proofs.Positions.{lens-after}

@@ -1,11 +1,7 @@
-pub mod Bools
-pub mod Every
-pub mod Count
 pub mod Lists
 pub mod Numbers
 pub mod Pages
 pub mod Writes
-pub mod Owned
 pub mod FreeRead
 pub mod Orders
 pub mod Maps
@@ -26,6 +22,7 @@ pub mod Room
 pub mod Chains
 pub mod Unique
 pub mod Determined
+pub mod Outcomes
 pub mod State
 pub mod Steps
 pub mod Opens

@@ -4,14 +4,14 @@ use native.Mathlib.Omega.{arith}
 use mathlib.Core.Path.{_≡_, refl, sym, subst, ap, _∙_}
 use mathlib.Core.Bool.{Bool, true, false, cond, _||_, true≢false}
 use mathlib.Core.List.{List, [], _∷_}
-use mathlib.Core.Option.{Option, none, some}
+use mathlib.Core.Option.{none, some}
 use lib.Dec.{T}
 use Rattle.blockfile.specs.Bytes.{Every}
 use Rattle.blockfile.specs.Layout.{Keyed}
 use Rattle.blockfile.specs.Order.{KeyRule, same, Rising, find, insert, erase, above, there}
-use Rattle.laws.proofs.Bools.{so, not-so, holds}
-use Rattle.laws.proofs.Every.{every-so}
-use Rattle.laws.proofs.Orders.{Ordered, same-eq, same-refl}
+use Rattle.blockfile.proofs.Bools.{so, not-so, holds, same-eq, same-refl}
+use Rattle.blockfile.proofs.Every.{every-so}
+use Rattle.laws.proofs.Orders.{Ordered}
 
 differ : (a b : List ℕ) → same a b ≡ false → a ≡ b → ⊥
 differ a b e q = true≢false (sym (so (same a b) (subst (λ (c : List ℕ). T (same a c)) q (same-refl a))) ∙ e)

@@ -10,9 +10,9 @@ use lib.Dec.{T}
 use Rattle.blockfile.specs.Bytes.{Every}
 use Rattle.blockfile.specs.Layout.{Keyed}
 use Rattle.blockfile.specs.Order.{KeyRule, same, Rising, find, insert, erase, above, there}
-use Rattle.laws.proofs.Bools.{so, not-so, holds}
-use Rattle.laws.proofs.Every.{every-left, every-right, every-so}
-use Rattle.laws.proofs.Orders.{Ordered, same-eq}
+use Rattle.blockfile.proofs.Bools.{so, not-so, holds, same-eq}
+use Rattle.blockfile.proofs.Every.{every-left, every-right, every-so}
+use Rattle.laws.proofs.Orders.{Ordered}
 use Rattle.laws.proofs.Maps.{find-low}
 
 module _ {A : Type 0} where

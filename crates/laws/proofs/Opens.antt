@@ -9,9 +9,9 @@ use Rattle.blockfile.specs.Layout.{Keyed, Table, Block, Layout, entriesOf}
 use Rattle.blockfile.specs.Order.{nameRule, keyRule, Within}
 use Rattle.blockfile.specs.Fields.{SkipList, LinkedSpan, LinkedTower}
 use Rattle.blockfile.specs.WellFormed.{Piece, superblock, skipList, tower, span, Bears, freePieces, firstBlock, count, skipListOf, spansIn, towersIn, tablePieces, pieces, TableOk, WellFormed}
-use Rattle.laws.proofs.Every.{every-left, every-right, every-join, every-map, every-unmap}
-use Rattle.laws.proofs.Count.{count-append}
-use Rattle.laws.proofs.Owned.{ownedBy, owned-append, count-owned}
+use Rattle.blockfile.proofs.Every.{every-left, every-right, every-join, every-map, every-unmap}
+use Rattle.blockfile.proofs.Count.{count-append}
+use Rattle.blockfile.proofs.Owned.{ownedBy, owned-append, count-owned}
 use Rattle.laws.proofs.State.{Held, Shows, skipPages, spanPages, towerPages, heldPages, heldBy}
 use Rattle.laws.proofs.Steps.{Holds}
 

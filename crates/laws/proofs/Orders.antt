@@ -1,25 +1,13 @@
 -- The order of keys: a strict total order, and when two keys are the same.
-use Prim.Native.Nat.{ℕ, _<_, _≤_}
+use Prim.Native.Nat.{ℕ, _<_}
 use native.Mathlib.Omega.{arith}
-use mathlib.Core.Path.{_≡_, refl, ap₂, sym, subst}
+use mathlib.Core.Path.{_≡_, refl, sym, subst}
 use mathlib.Core.Bool.{Bool, true, false, _&&_, _||_}
 use mathlib.Core.List.{List, [], _∷_}
 use lib.Dec.{T, ltb, eqb, ltb→lt, lt→ltb, eqb→eq, eqb-refl}
 use borrow.Author.Tests.{ltb-false}
 use Rattle.blockfile.specs.Order.{KeyRule, bytesBelow, same, nameRule, keyRule}
-use Rattle.laws.proofs.Bools.{holds, and-both, both-and}
-
-pub same-refl : (k : List ℕ) → T (same k k)
-same-refl [] = tt
-same-refl (x ∷ k) = both-and (eqb x x) (same k k) (eqb-refl x) (same-refl k)
-
-pub same-eq : (a b : List ℕ) → T (same a b) → a ≡ b
-same-eq [] [] t = refl
-same-eq [] (y ∷ ys) t = absurd t
-same-eq (x ∷ xs) [] t = absurd t
-same-eq (x ∷ xs) (y ∷ ys) t =
-    let h : T (eqb x y) × T (same xs ys) = and-both (eqb x y) (same xs ys) t in
-    ap₂ (λ (z : ℕ) (zs : List ℕ). z ∷ zs) (eqb→eq x y (h .0)) (same-eq xs ys (h .1))
+use Rattle.blockfile.proofs.Bools.{holds, and-both, both-and}
 
 -- a strict total order
 pub record Ordered (r : KeyRule) : Type 0 where

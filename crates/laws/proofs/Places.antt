@@ -9,7 +9,7 @@ use lib.Seq.{split-at, drop-append-add}
 use Rattle.blockfile.specs.Bytes.{Every, gather}
 use Rattle.blockfile.specs.Layout.{Entry, Span, Column, Table, columns, spansOf, towersOf, towerIn, entriesOf}
 use Rattle.blockfile.specs.Put.{spanAt}
-use Rattle.laws.proofs.Every.{every-left, every-right}
+use Rattle.blockfile.proofs.Every.{every-left, every-right}
 
 -- ---- Lists
 

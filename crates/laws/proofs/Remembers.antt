@@ -12,14 +12,13 @@ use Rattle.blockfile.specs.declared.Refusal.{Refusal}
 use Rattle.blockfile.specs.declared.Refusal.the-variants.{ScratchLength, NoRoom}
 use Rattle.blockfile.specs.Bytes.{apply, Every}
 use Rattle.blockfile.specs.Layout.{Layout, freeCount}
-use Rattle.blockfile.specs.Order.{Within, within, there}
+use Rattle.blockfile.specs.Order.{Within, there}
 use Rattle.blockfile.specs.WellFormed.{WellFormed}
 use Rattle.blockfile.specs.Refusals.{Op, check, get, put, remove, next, create, Reply, refusal, Ledger, ledgerOf, rows, lowest, refused, handed, doneReply}
-use Rattle.blockfile.specs.Answers.{Outcome, refuse, outcomeIf, outcomeOn, onTable, planOf, lacking, planned}
+use Rattle.blockfile.specs.Answers.{Outcome, refuse, outcomeIf, outcomeOn, planOf, lacking, planned}
 use Rattle.blockfile.specs.Calls.{lengthOk, cleared, answered, Called, bad-length, short-scratch, malformed, accepted, Keeps}
 use Rattle.blockfile.specs.Ledger.{Fed, stepOn, step, tablesAfter}
-use Rattle.blockfile.specs.History.{Event, Run, fedTen, fed, Holds, tenDue, enough, saidTo, Followed, Remembered, Demand3}
-use Rattle.laws.proofs.Bools.{so}
+use Rattle.blockfile.specs.History.{Event, fedTen, Holds, tenDue, enough, saidTo, Followed, Remembered, Demand3}
 use Rattle.laws.proofs.Unique.{unique}
 
 -- the fact that demand 3 rests on

@@ -11,7 +11,7 @@ use Rattle.blockfile.specs.Layout.{Entry, Span, Tower, Column, Table, columns, 
 use Rattle.blockfile.specs.Order.{KeyRule, Within}
 use Rattle.blockfile.specs.WellFormed.{TableOk}
 use Rattle.blockfile.specs.Put.{Parts, parts, Shared, share, spanAt, newColumns, setSpan, withSpan, withColumns, tableAfter}
-use Rattle.laws.proofs.Every.{every-join, every-so}
+use Rattle.blockfile.proofs.Every.{every-join, every-so}
 use Rattle.laws.proofs.Places.{take-map, drop-map, every-take, every-drop, every-at, entriesIn, entriesBefore, entriesAfter, columnAt, spans-append, towers-append, entries-append}
 use Rattle.laws.proofs.Columns.{TowerOk, ColumnOk, EntriesOk, first-ok, head-ok, rest-ok, table-ok}
 use Rattle.laws.proofs.Splits.{Fits, parts-plain, plain-new}

@@ -10,9 +10,9 @@ use lib.Dec.{T}
 use Rattle.blockfile.specs.Layout.{Entry, Table, columns, entriesFrom, lensAt, entryEnd, entriesEnd, reached}
 use Rattle.blockfile.specs.Order.{KeyRule, same, Rising, find, insert}
 use Rattle.blockfile.specs.Put.{Parts, parts, towerHeight, spanWanted, wantedBy}
-use Rattle.laws.proofs.Bools.{holds}
-use Rattle.laws.proofs.Every.{every-so}
-use Rattle.laws.proofs.Orders.{Ordered, same-eq}
+use Rattle.blockfile.proofs.Bools.{holds, same-eq}
+use Rattle.blockfile.proofs.Every.{every-so}
+use Rattle.laws.proofs.Orders.{Ordered}
 use Rattle.laws.proofs.Maps.{find-low}
 use Rattle.laws.proofs.Positions.{entries-mono}
 use Rattle.laws.proofs.Places.{take-map, drop-map}

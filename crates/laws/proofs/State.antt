@@ -10,7 +10,7 @@ use Rattle.blockfile.specs.Layout.{Block, Layout}
 use Rattle.blockfile.specs.Order.{Within, within}
 use Rattle.blockfile.specs.Fields.{SkipList, LinkedSpan, LinkedTower, IsSuperblock, IsSkipList, IsSpan, IsTower}
 use Rattle.blockfile.specs.WellFormed.{Bears, freePieces, firstBlock, count, skipListOf, spansIn, towersIn}
-use Rattle.laws.proofs.Owned.{ownedBy}
+use Rattle.blockfile.proofs.Owned.{ownedBy}
 
 pub record Held : Type 0 where
   pub skips : List SkipList

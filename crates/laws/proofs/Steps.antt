@@ -9,11 +9,11 @@ use Rattle.blockfile.specs.Bytes.{pg, write, Every}
 use Rattle.blockfile.specs.Order.{Within, within}
 use Rattle.blockfile.specs.Fields.{IsSuperblock, IsSkipList, IsTower, IsSpan, IsBlock, IsFree}
 use Rattle.blockfile.specs.WellFormed.{Piece, superblock, skipList, tower, span, block, freePage, pagesOf, Bears, count}
-use Rattle.laws.proofs.Bools.{bit-low, bit-true, within-is}
-use Rattle.laws.proofs.Every.{every-left, every-right, every-join}
-use Rattle.laws.proofs.Count.{count-here, count-append, not-first}
+use Rattle.blockfile.proofs.Bools.{bit-low, bit-true, within-is}
+use Rattle.blockfile.proofs.Every.{every-left, every-right, every-join}
+use Rattle.blockfile.proofs.Count.{count-here, count-append, not-first}
 use Rattle.laws.proofs.Pages.{length-write, pg-write-other}
-use Rattle.laws.proofs.Owned.{ownedBy, count-owned}
+use Rattle.blockfile.proofs.Owned.{ownedBy, count-owned}
 
 -- ---- What is said of pieces stands on their own pages alone
 

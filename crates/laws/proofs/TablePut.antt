@@ -10,7 +10,7 @@ use Rattle.blockfile.specs.Layout.{Entry, Table, columns, entriesOf}
 use Rattle.blockfile.specs.Order.{KeyRule, find, insert, there}
 use Rattle.blockfile.specs.WellFormed.{TableOk}
 use Rattle.blockfile.specs.Put.{target, spanAt, parts, wantedBy, share, tableAfter}
-use Rattle.laws.proofs.Bools.{so}
+use Rattle.blockfile.proofs.Bools.{so}
 use Rattle.laws.proofs.Orders.{Ordered}
 use Rattle.laws.proofs.Middle.{insert-count, insert-some}
 use Rattle.laws.proofs.Places.{entriesBefore, entriesAfter}

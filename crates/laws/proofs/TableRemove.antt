@@ -11,7 +11,7 @@ use Rattle.blockfile.specs.Order.{KeyRule, erase}
 use Rattle.blockfile.specs.WellFormed.{TableOk}
 use Rattle.blockfile.specs.Put.{target, spanAt, parts, wantedBy}
 use Rattle.blockfile.specs.Remove.{without}
-use Rattle.laws.proofs.Every.{every-join}
+use Rattle.blockfile.proofs.Every.{every-join}
 use Rattle.laws.proofs.Orders.{Ordered}
 use Rattle.laws.proofs.Middle.{erase-count}
 use Rattle.laws.proofs.Places.{every-take, every-drop, entriesIn, entriesBefore, entriesAfter, entries-append}

@@ -16,8 +16,8 @@ use Rattle.blockfile.specs.Layout.{Keyed, Entry, Span, Table, columns, spansOf,
 use Rattle.blockfile.specs.Order.{KeyRule, keyRule, same, Rising, find, insert, erase, above}
 use Rattle.blockfile.specs.WellFormed.{TableOk}
 use Rattle.blockfile.specs.Put.{begins, lastPlace, target, spanAt}
-use Rattle.laws.proofs.Bools.{holds}
-use Rattle.laws.proofs.Every.{every-so}
+use Rattle.blockfile.proofs.Bools.{holds}
+use Rattle.blockfile.proofs.Every.{every-so}
 use Rattle.laws.proofs.Orders.{Ordered}
 use Rattle.laws.proofs.Middle.{AllUnder, AllOver, firstKey, orThen, rising-left, rising-right, rising-before, under-reach, find-middle, insert-middle, erase-middle, above-middle}
 use Rattle.laws.proofs.Places.{gather-append, drop-behind, take-map, drop-map, every-drop, entriesIn, entriesBefore, entriesAfter, place-entries}

@@ -13,8 +13,7 @@ use lib.Dec.{T, eqb, leb, eqb→eq, leb→le}
 use Rattle.blockfile.specs.Bytes.{pg}
 use Rattle.blockfile.specs.Marks.{marks, superMark, skipMark, towerMark, spanMark, contMark, blockMark, freeMark}
 use Rattle.blockfile.specs.Order.{same}
-use Rattle.laws.proofs.Bools.{and-both}
-use Rattle.laws.proofs.Orders.{same-eq}
+use Rattle.blockfile.proofs.Bools.{and-both, same-eq}
 use Rattle.laws.proofs.Pages.{pg-at, length-pg}
 use Rattle.pages.specs.Begins.{begins, firstMark, kindOf}
 

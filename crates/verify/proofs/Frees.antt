@@ -3,20 +3,19 @@ use Prim.Native.Nat.{ℕ, zero, suc, _+_, _*_, _-_, _≤_, _<_}
 use native.Mathlib.Omega.{arith}
 use mathlib.Core.Path.{_≡_, refl, ap, ap₂, sym, _∙_, subst}
 use mathlib.Core.Bool.{Bool, true, false, true≢false}
-use mathlib.Core.List.{List, [], _∷_, _++_, map}
-use lib.ListN.{length, getD}
+use mathlib.Core.List.{List, [], _∷_, map}
+use lib.ListN.{length}
 use Rattle.blockfile.specs.Bytes.{pg, be32, Every, gather}
-use Rattle.blockfile.specs.Marks.{marks, blockMark, freeMark}
+use Rattle.blockfile.specs.Marks.{blockMark, freeMark}
 use Rattle.blockfile.specs.Layout.{Block, freeCount}
 use Rattle.blockfile.specs.Fields.{Numbers, IsBlock}
 use Rattle.blockfile.specs.WellFormed.{Piece, pagesOf, Bears, block, freePage, freePieces, firstBlock}
-use Rattle.pages.specs.Begins.{begins}
 use Rattle.pages.specs.Claims.{claimable, claimed, Claimed}
 use Rattle.pages.proofs.Marks.{begins-take, take-begins}
 use Rattle.walks.specs.declared.Walked.{Walked}
 use Rattle.walks.specs.declared.Walked.the-variants.{Refused, Done}
-use Rattle.walks.specs.Found.{Open, Fresh, claims, zeros, Found, FindsAt}
-use Rattle.walks.proofs.Founds.{SameAt, same-start, same-turn, finds-none, finds-done, found-none, found-join, found-first, found-second, claimable-open, zeros-claimed, zeros-claims, length-claimed, length-claims}
+use Rattle.walks.specs.Found.{Open, claims, zeros, Found, FindsAt}
+use Rattle.walks.proofs.Founds.{SameAt, same-start, same-turn, finds-none, finds-done, found-none, found-join, found-first, found-second, claimable-open, zeros-claims, length-claimed, length-claims}
 use Rattle.walks.proofs.Pieces.{Single, found-claimable, found-rest, found-cons, claim-done, claim-not}
 use Rattle.verify.specs.Free.{numbersAt, ListedFound, BlockFound, FreeFound}
 

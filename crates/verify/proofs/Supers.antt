@@ -1,24 +1,22 @@
 -- The tests of the superblock.
 use Prim.Native.Nat.{ℕ, _+_, _*_, _-_, _≤_, _<_}
 use native.Mathlib.Omega.{arith}
-use mathlib.Core.Path.{_≡_, refl, ap, ap₂, sym, _∙_, subst}
+use mathlib.Core.Path.{_≡_, refl, ap, sym, _∙_, subst}
 use mathlib.Core.Bool.{Bool, true, false, true≢false}
-use mathlib.Core.List.{List, [], _∷_}
+use mathlib.Core.List.{List, []}
 use lib.ListN.{length, getD}
-use lib.Dec.{lit<}
 use Rattle.blockfile.specs.Bytes.{pg, be16, be32, be64}
 use Rattle.blockfile.specs.Marks.{superMark}
 use Rattle.blockfile.specs.Order.{Within}
 use Rattle.blockfile.specs.Fields.{IsSuperblock}
-use Rattle.blockfile.specs.WellFormed.{superblock, Bears}
+use Rattle.blockfile.specs.WellFormed.{superblock}
 use Rattle.laws.proofs.Pages.{pg-at}
 use Rattle.pages.specs.Claims.{claimable, claimed, Claimed}
 use Rattle.pages.proofs.Marks.{begins-take, take-begins}
-use Rattle.walks.specs.Found.{Open, Found, Decides, FindsAt}
+use Rattle.walks.specs.Found.{Open, Decides, FindsAt}
 use Rattle.walks.proofs.Founds.{decides-true, decides-false, same-start, finds-none, finds-done, found-none, claimable-open, length-claimed}
 use Rattle.walks.proofs.Pieces.{Single, found-claimable, found-rest, found-cons, claim-done, claim-not}
 use Rattle.verify.specs.declared.superblock.Superblock.{Superblock}
-use Rattle.verify.specs.declared.superblock.Started.{Started}
 use Rattle.verify.specs.declared.superblock.Started.the-variants.{Refused, Begun}
 use Rattle.verify.specs.Superblock.{Fixed, SuperFound}
 

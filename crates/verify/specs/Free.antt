@@ -5,7 +5,7 @@ use mathlib.Core.List.{List, [], _∷_, map}
 use lib.ListN.{length}
 use Rattle.blockfile.specs.Bytes.{pg, be32, Every}
 use Rattle.blockfile.specs.Layout.{Block, freeCount}
-use Rattle.blockfile.specs.WellFormed.{Piece, block, freePage, freePieces, firstBlock}
+use Rattle.blockfile.specs.WellFormed.{block, freePage, freePieces, firstBlock}
 use Rattle.walks.specs.Found.{Found}
 
 -- n four-byte numbers of b from offset o on

@@ -1,9 +1,9 @@
 -- The superblock, as it is found.
-use Prim.Native.Nat.{ℕ, _*_, _≤_}
+use Prim.Native.Nat.{ℕ, _*_}
 use mathlib.Core.Path.{_≡_}
 use mathlib.Core.List.{List, [], _∷_}
 use lib.ListN.{length, getD}
-use Rattle.blockfile.specs.Bytes.{be16, be32, be64}
+use Rattle.blockfile.specs.Bytes.{be32, be64}
 use Rattle.blockfile.specs.Order.{Within}
 use Rattle.blockfile.specs.WellFormed.{superblock}
 use Rattle.walks.specs.Found.{Found}

@@ -1,25 +1,21 @@
 -- Claims one after another, pieces found one after another, and when a walk's answer is right.
 use Prim.Native.Nat.{ℕ, zero, suc, _+_, _-_, _≤_, _<_, zero-le}
 use native.Mathlib.Omega.{arith}
-use native.Mathlib.Decide.{ℕ-discrete, decLt}
 use mathlib.Core.Path.{_≡_, refl, ap, sym, _∙_, subst}
-use mathlib.Core.Logic.{by-cases}
 use mathlib.Core.Bool.{Bool, true, false, cond, _&&_, true≢false}
 use mathlib.Core.List.{List, [], _∷_, _++_}
 use lib.ListN.{length, getD, set, length-set}
-use lib.Seq.{getD-set-same, getD-set-other}
 use lib.Dec.{T, eqb, leb}
-use borrow.Author.Tests.{eq-eqb, ne-eqb, eqb-true, eqb-false, leb-true, le-leb}
-use Rattle.blockfile.specs.Bytes.{pg, Every, gather}
+use borrow.Author.Tests.{eq-eqb, eqb-true, le-leb}
+use Rattle.blockfile.specs.Bytes.{pg}
 use Rattle.blockfile.specs.Marks.{marks}
 use Rattle.blockfile.specs.Order.{Within, within}
-use Rattle.blockfile.specs.WellFormed.{Piece, pagesOf, Bears, count}
-use Rattle.laws.proofs.Bools.{so, not-so, holds, and-both, both-and, within-is}
-use Rattle.laws.proofs.Every.{every-left, every-right, every-join}
-use Rattle.laws.proofs.Count.{count-here, count-append}
-use Rattle.laws.proofs.Owned.{ownedBy, owned-append}
+use Rattle.blockfile.specs.WellFormed.{Piece, Bears}
+use Rattle.blockfile.proofs.Bools.{so, holds, and-both, within-is}
+use Rattle.blockfile.proofs.Every.{every-left, every-right, every-join}
+use Rattle.blockfile.proofs.Owned.{ownedBy, owned-append}
 use Rattle.pages.specs.Begins.{begins}
-use Rattle.pages.specs.Claims.{claimable, claimed, full}
+use Rattle.pages.specs.Claims.{claimable, claimed}
 use Rattle.walks.specs.Found.{Open, Fresh, claims, zeros, Found, Decides, FindsAt}
 
 -- ---- Claims

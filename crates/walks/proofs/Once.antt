@@ -1,19 +1,18 @@
 -- Pages claimed one after another are claimed once each; where all are claimed, each page is owned exactly once.
-use Prim.Native.Nat.{ℕ, zero, suc, _+_, _-_, _≤_, _<_, zero-le}
+use Prim.Native.Nat.{ℕ, suc, _+_, _-_, _≤_, _<_, zero-le}
 use native.Mathlib.Omega.{arith}
-use native.Mathlib.Decide.{ℕ-discrete, decLt, decLe}
-use mathlib.Core.Path.{_≡_, refl, ap, sym, _∙_, subst}
+use native.Mathlib.Decide.{ℕ-discrete, decLt}
+use mathlib.Core.Path.{_≡_, refl, sym, _∙_, subst}
 use mathlib.Core.Logic.{by-cases}
-use mathlib.Core.Bool.{Bool, true, false, cond, not, _&&_, true≢false}
+use mathlib.Core.Bool.{true, cond}
 use mathlib.Core.List.{List, [], _∷_}
 use lib.ListN.{length, getD, replicate, length-replicate, getD-replicate}
 use lib.Seq.{getD-set-same, getD-set-other}
-use lib.Dec.{T, eqb, leb, eqb-refl}
-use borrow.Author.Tests.{ne-eqb, eq-eqb, le-leb, lt-leb, eqb-true}
+use borrow.Author.Tests.{ne-eqb, le-leb}
 use Rattle.blockfile.specs.Order.{Within, within}
 use Rattle.blockfile.specs.WellFormed.{count}
-use Rattle.laws.proofs.Bools.{so, not-so, holds, and-both, both-and, within-is, bit-true, bit-low}
-use Rattle.laws.proofs.Count.{count-here, count-more}
+use Rattle.blockfile.proofs.Bools.{not-so, within-is, bit-true, bit-low}
+use Rattle.blockfile.proofs.Count.{count-here, count-more}
 use Rattle.pages.specs.Claims.{claimed, full}
 use Rattle.pages.proofs.Claims.{full-at, full-of}
 use Rattle.walks.specs.Found.{Open, Fresh, claims}

@@ -1,10 +1,11 @@
 -- Tests: what a test that holds says.
 use Prim.Native.Nat.{ℕ, _≤_}
 use native.Mathlib.Omega.{arith}
-use mathlib.Core.Path.{_≡_, refl, sym}
+use mathlib.Core.Path.{_≡_, refl, ap₂, sym}
 use mathlib.Core.Bool.{Bool, true, false, cond, _&&_, true≢false}
-use lib.Dec.{T, leb, leb→le}
-use Rattle.blockfile.specs.Order.{Within, within}
+use mathlib.Core.List.{List, [], _∷_}
+use lib.Dec.{T, eqb, leb, leb→le, eqb→eq, eqb-refl}
+use Rattle.blockfile.specs.Order.{Within, within, same}
 
 pub so : (b : Bool) → T b → b ≡ true
 so true h = refl
@@ -41,3 +42,17 @@ pub within-is : (lo hi n : ℕ) → T (within lo hi n) → Within lo hi n
 within-is lo hi n h =
     let k : T (leb lo n) × T (leb n hi) = and-both (leb lo n) (leb n hi) h in
     (leb→le lo n (k .0), leb→le n hi (k .1))
+
+-- ---- The same bytes
+
+pub same-refl : (k : List ℕ) → T (same k k)
+same-refl [] = tt
+same-refl (x ∷ k) = both-and (eqb x x) (same k k) (eqb-refl x) (same-refl k)
+
+pub same-eq : (a b : List ℕ) → T (same a b) → a ≡ b
+same-eq [] [] t = refl
+same-eq [] (y ∷ ys) t = absurd t
+same-eq (x ∷ xs) [] t = absurd t
+same-eq (x ∷ xs) (y ∷ ys) t =
+    let h : T (eqb x y) × T (same xs ys) = and-both (eqb x y) (same xs ys) t in
+    ap₂ (λ (z : ℕ) (zs : List ℕ). z ∷ zs) (eqb→eq x y (h .0)) (same-eq xs ys (h .1))

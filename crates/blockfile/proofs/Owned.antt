@@ -3,13 +3,13 @@ use Prim.Native.Nat.{ℕ, _+_, _≤_}
 use native.Mathlib.Omega.{arith}
 use mathlib.Core.Path.{_≡_, refl, ap, sym, _∙_, subst}
 use mathlib.Core.List.{List, [], _∷_, _++_, append-assoc}
-use Rattle.blockfile.specs.Bytes.{Every, pg, gather}
+use Rattle.blockfile.specs.Bytes.{gather}
 use Rattle.blockfile.specs.Layout.{Layout}
 use Rattle.blockfile.specs.Order.{Within, within}
 use Rattle.blockfile.specs.WellFormed.{Piece, pagesOf, count, pieces, WellFormed}
-use Rattle.laws.proofs.Bools.{bit-low, bit-true, within-is}
-use Rattle.laws.proofs.Every.{every-left, every-right}
-use Rattle.laws.proofs.Count.{Positive, count-append, no-zero}
+use Rattle.blockfile.proofs.Bools.{bit-low, bit-true, within-is}
+use Rattle.blockfile.proofs.Every.{every-left, every-right}
+use Rattle.blockfile.proofs.Count.{Positive, count-append, no-zero}
 
 abbrev pub ownedBy : List Piece → List ℕ
 ownedBy ps = gather pagesOf ps

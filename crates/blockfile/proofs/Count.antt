@@ -5,9 +5,9 @@ use mathlib.Core.Path.{_≡_, sym, subst}
 use mathlib.Core.Logic.{_≢_}
 use mathlib.Core.List.{List, [], _∷_, _++_}
 use lib.Dec.{eqb, eqb-refl}
 use Rattle.blockfile.specs.Bytes.{Every}
 use Rattle.blockfile.specs.WellFormed.{count}
-use Rattle.laws.proofs.Bools.{so}
+use Rattle.blockfile.proofs.Bools.{so}
 
 pub count-here : (n : ℕ) (ns : List ℕ) → count n (n ∷ ns) ≡ 1 + count n ns
 count-here n ns = rw (so (eqb n n) (eqb-refl n))

@@ -1,0 +1,4 @@
+pub mod Rests
+pub mod Places
+pub mod Orders
+pub mod Keys

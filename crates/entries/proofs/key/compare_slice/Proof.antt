@@ -1,0 +1,25 @@
+-- `entries::key::compare_slice` meets its contract, on one page and over page breaks.
+use borrow.Author.Needs.{needs}
+use Rattle.entries.proofs.Keys.{key-near, compared-to-bytes}
+use Rattle.entries.proofs.key.compare_slice.Statement.{statement}
+use Rattle.entries.proofs.key.compare_slice.Tie as tie
+
+on-page-requires : tie.Need-on-page-requires
+on-page-requires c κs = key-near (c .before .before .pre)
+
+key-bytes-requires : tie.Need-key-bytes-requires
+key-bytes-requires c κs = (c .before .before .before .before .pre, c .before .on-page .ensures .some (c .if1 .taken), c .before .on-page .ensures .fits (c .if1 .taken))
+
+returns : tie.Need-returns
+returns c = compared-to-bytes _ (c .before .key-bytes .ensures) _ _ (c .compare-bytes .ensures)
+
+pub compare-slice-spec : {M : Type 1} → statement M
+compare-slice-spec =
+    tie.close
+    (tie.spec
+    on-page-requires
+    key-bytes-requires
+    (λ c κs. search needs)
+    returns
+    (λ c κs. search needs)
+    (λ c. search needs))

@@ -1,0 +1,208 @@
+// Keys on the pages of a span: their order, and whether they are names. A key that lies on one page is a part of the image and
+// is read in a plain loop; any other is read byte by byte over the page breaks.
+ghost use mathlib.Core.Path.{_≡_};
+ghost use Prim.Native.Nat.{_+_, _≤_, _<_};
+ghost use Rattle.blockfile.specs.Order.{allWithin};
+ghost use Rattle.entries.specs.Keys.{Key, order, Compared, ComparedTo, Printed, Least, Near, OnPage, Bytes};
+use crate::place::Place;
+use crate::place::step;
+
+// Which of two keys comes first: by unsigned bytes, a proper prefix first.
+pub enum Order {
+    Less,
+    Equal,
+    Greater,
+}
+
+fn least(m: usize, n: usize) -> usize
+    ensures { λ r. ⌜ Least m n r ⌝ }
+{
+    if m < n { m } else { n }
+}
+
+// The order of two lists of bytes.
+fn compare_bytes(x: &[u8], y: &[u8]) -> Order
+    ensures { λ r. ⌜ r ≡ order (now (x .entry)) (now (y .entry)) ⌝ }
+{
+    let n = least(x.len(), y.len());
+    let mut i = 0;
+    while i < n {
+        let a = x[i];
+        let b = y[i];
+        if a != b {
+            if a < b {
+                return Order::Less;
+            }
+            return Order::Greater;
+        }
+        i += 1;
+    }
+    if x.len() < y.len() {
+        return Order::Less;
+    }
+    if y.len() < x.len() {
+        return Order::Greater;
+    }
+    Order::Equal
+}
+
+// Whether all bytes are of 21 to 7e hex.
+fn printable_bytes(x: &[u8]) -> bool
+    ensures { λ r. ⌜ r ≡ allWithin 0x21 0x7e (now (x .entry)) ⌝ }
+{
+    let mut i = 0;
+    while i < x.len() {
+        let b = x[i];
+        if b < 0x21 {
+            return false;
+        }
+        if 0x7e < b {
+            return false;
+        }
+        i += 1;
+    }
+    true
+}
+
+// Whether a key of n bytes lies on one page. An empty key has no place.
+fn on_page(at: Place, n: usize) -> bool
+    requires { ⌜ Near at n ⌝ }
+    ensures { λ r. ⌜ OnPage at n r ⌝ }
+{
+    if n == 0 {
+        return false;
+    }
+    if n <= 1024 - at.offset { true } else { false }
+}
+
+// The bytes of a key that lies on one page.
+fn key_bytes(image: &[u8], at: Place, n: usize) -> &[u8]
+    requires { ⌜ Key (now image) at n × (0 < n) × (at .offset + n ≤ 1024) ⌝ }
+    ensures { λ r. ⌜ Bytes (now (image .entry)) at n (now r) ⌝ }
+{
+    let page = at.page;
+    let offset = at.offset;
+    let from = 1024 * (page - 1) + offset;
+    let end = from + n;
+    &image[from..end]
+}
+
+// The order of two keys, byte by byte over page breaks.
+fn compare_across(image: &[u8], a: Place, m: usize, b: Place, n: usize) -> Order
+    requires { ⌜ Key (now image) a m × Key (now image) b n ⌝ }
+    ensures { λ r. ⌜ Compared (now (image .entry)) a m b n r ⌝ }
+{
+    let mut x = a;
+    let mut y = b;
+    let mut i = m;
+    let mut j = n;
+    while i != 0 {
+        if j == 0 {
+            return Order::Greater;
+        }
+        let c = step(image, x);
+        let d = step(image, y);
+        let first = c.byte;
+        let second = d.byte;
+        if first < second {
+            return Order::Less;
+        }
+        if second < first {
+            return Order::Greater;
+        }
+        x = c.after;
+        y = d.after;
+        i -= 1;
+        j -= 1;
+    }
+    if j == 0 { Order::Equal } else { Order::Less }
+}
+
+// The order of the key of m bytes at a and the key of n bytes at b.
+pub fn compare_keys(image: &[u8], a: Place, m: usize, b: Place, n: usize) -> Order
+    requires { ⌜ Key (now image) a m × Key (now image) b n ⌝ }
+    ensures { λ r. ⌜ Compared (now (image .entry)) a m b n r ⌝ }
+{
+    if on_page(a, m) {
+        if on_page(b, n) {
+            return compare_bytes(key_bytes(image, a, m), key_bytes(image, b, n));
+        }
+    }
+    compare_across(image, a, m, b, n)
+}
+
+// The order of a key and a list of bytes, byte by byte over page breaks.
+fn compare_slice_across(image: &[u8], a: Place, m: usize, key: &[u8]) -> Order
+    requires { ⌜ Key (now image) a m ⌝ }
+    ensures { λ r. ⌜ ComparedTo (now (image .entry)) a m (now (key .entry)) r ⌝ }
+{
+    let mut x = a;
+    let mut i = m;
+    let mut j = 0;
+    while i != 0 {
+        if key.len() <= j {
+            return Order::Greater;
+        }
+        let c = step(image, x);
+        let first = c.byte;
+        let second = key[j];
+        if first < second {
+            return Order::Less;
+        }
+        if second < first {
+            return Order::Greater;
+        }
+        x = c.after;
+        i -= 1;
+        j += 1;
+    }
+    if j < key.len() {
+        Order::Less
+    } else {
+        Order::Equal
+    }
+}
+
+// The order of the key of m bytes at a and the given key.
+pub fn compare_slice(image: &[u8], a: Place, m: usize, key: &[u8]) -> Order
+    requires { ⌜ Key (now image) a m ⌝ }
+    ensures { λ r. ⌜ ComparedTo (now (image .entry)) a m (now (key .entry)) r ⌝ }
+{
+    if on_page(a, m) {
+        return compare_bytes(key_bytes(image, a, m), key);
+    }
+    compare_slice_across(image, a, m, key)
+}
+
+// Whether the n bytes are all of 21 to 7e hex, byte by byte over page breaks.
+fn printable_across(image: &[u8], at: Place, n: usize) -> bool
+    requires { ⌜ Key (now image) at n ⌝ }
+    ensures { λ r. ⌜ Printed (now (image .entry)) at n r ⌝ }
+{
+    let mut x = at;
+    let mut i = n;
+    while i != 0 {
+        let g = step(image, x);
+        let b = g.byte;
+        if b < 0x21 {
+            return false;
+        }
+        if 0x7e < b {
+            return false;
+        }
+        x = g.after;
+        i -= 1;
+    }
+    true
+}
+
+// Whether the key of n bytes has only bytes of 21 to 7e hex, as a name has.
+pub fn printable(image: &[u8], at: Place, n: usize) -> bool
+    requires { ⌜ Key (now image) at n ⌝ }
+    ensures { λ r. ⌜ Printed (now (image .entry)) at n r ⌝ }
+{
+    if on_page(at, n) {
+        return printable_bytes(key_bytes(image, at, n));
+    }
+    printable_across(image, at, n)
+}
