@@ -20,6 +20,10 @@ pub mod TableCreate
 pub mod Allowed
 pub mod Room
 pub mod Chains
+pub mod SpanLinks
+pub mod TowerLinks
+pub mod Relinks
+pub mod TableTowers
 pub mod Unique
 pub mod Determined
 pub mod Outcomes
