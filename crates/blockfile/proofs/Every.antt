@@ -19,6 +19,10 @@ module _ {A : Type 0} (R : A → Type 0) where
   every-so f [] h = tt
   every-so f (x ∷ xs) h = (f x (h .0), every-so f xs (h .1))
 
+  pub every-both : (S : A → Type 0) {U : A → Type 0} → ((x : A) → R x → S x → U x) → (xs : List A) → Every R xs → Every S xs → Every U xs
+  every-both S f [] h k = tt
+  every-both S f (x ∷ xs) h k = (f x (h .0) (k .0), every-both S f xs (h .1) (k .1))
+
 -- of a mapped list
 module _ {A B : Type 0} (R : B → Type 0) (f : A → B) where
   pub every-map : (xs : List A) → Every (λ x. R (f x)) xs → Every R (map f xs)

@@ -36,8 +36,25 @@ number-at b f o j (suc n) (suc i) h l =
     rw (e, d) (number-at b f (o + 4) (suc j) n i (h .1) (omega arith))
 
 -- a tower's entry i, below its height n
-entry-at : (b : List ℕ) (f : ℕ → ℕ) (n i : ℕ) → Numbers b 16 (map f (from 0 n)) → i < n → be32 b (16 + 4 * i) ≡ f i
+pub entry-at : (b : List ℕ) (f : ℕ → ℕ) (n i : ℕ) → Numbers b 16 (map f (from 0 n)) → i < n → be32 b (16 + 4 * i) ≡ f i
 entry-at b f n i h l = number-at b f 16 0 n i h l ∙ ap f (zero-add i)
+
+-- and back: numbers at these places are the entries
+numbers-from : (b : List ℕ) (f : ℕ → ℕ) (o j n : ℕ) → ((i : ℕ) → i < n → be32 b (o + 4 * i) ≡ f (j + i)) → Numbers b o (map f (from j n))
+numbers-from b f o j zero h = tt
+numbers-from b f o j (suc n) h =
+    let e : o + 4 * 0 ≡ o = omega arith in
+    let d : j + 0 ≡ j = omega arith in
+    (rw (e, d) at (h 0 (omega arith)), numbers-from b f (o + 4) (suc j) n more)
+  where
+    more : (i : ℕ) → i < n → be32 b (o + 4 + 4 * i) ≡ f (suc j + i)
+    more i l =
+        let e : o + 4 * suc i ≡ o + 4 + 4 * i = omega arith in
+        let d : j + suc i ≡ suc j + i = omega arith in
+        rw (e, d) at (h (suc i) (omega arith))
+
+pub at-entries : (b : List ℕ) (f : ℕ → ℕ) (n : ℕ) → ((i : ℕ) → i < n → be32 b (16 + 4 * i) ≡ f i) → Numbers b 16 (map f (from 0 n))
+at-entries b f n h = numbers-from b f 16 0 n (λ i l. h i l ∙ ap f (sym (zero-add i)))
 
 module _ (g : ℕ → List ℕ) (i : ℕ) where
   chain-from : (cs : List Column) → Every (Bears g) (map tower (linkTowers cs)) → Follows g i (nextAt i (towersOf cs)) (higher i (towersOf cs))

@@ -24,6 +24,7 @@ pub mod SpanLinks
 pub mod TowerLinks
 pub mod Relinks
 pub mod TableTowers
+pub mod TableWrites
 pub mod Unique
 pub mod Determined
 pub mod Outcomes

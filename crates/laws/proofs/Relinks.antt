@@ -1,58 +1,23 @@
 -- A table's towers relinked: the writes of the text as edits of links, and where they lead when a span is split or unlinked.
-use Prim.Native.Nat.{ℕ, zero, suc, _+_, _*_, _-_, _<_, _≤_, min, max}
+use Prim.Native.Nat.{ℕ, zero, suc, _+_, _<_, _≤_, max}
 use native.Mathlib.Omega.{arith}
-use native.Mathlib.Numerals.{add-one}
 use mathlib.Core.Path.{_≡_, refl, ap, ap₂, sym, _∙_, subst}
 use mathlib.Core.Logic.{_⊎_, inl, inr}
 use mathlib.Core.Bool.{Bool, true, false, cond}
-use mathlib.Core.Option.{Option, none, some}
 use mathlib.Core.List.{List, [], _∷_, _++_, map, map-append, map-map, append-nil}
-use lib.ListN.{length, getD, take, drop, length-append, length-take, take-append-drop}
-use lib.Seq.{take-at, drop-at, drop-drop}
+use lib.ListN.{length, take, drop, take-append-drop}
 use lib.Dec.{ltb}
-use borrow.Author.Tests.{le-ltb}
-use Rattle.blockfile.specs.Bytes.{Write, on, word32, Every, gather, from}
-use Rattle.blockfile.specs.Layout.{Span, Tower, Column, Table, columns, spansOf, towersOf, towerIn, entriesOf}
-use Rattle.blockfile.specs.Fields.{LinkedTower, SkipList}
-use Rattle.blockfile.specs.WellFormed.{nextAt, linkTowers, towersIn, count, skipListOf}
-use Rattle.blockfile.specs.Put.{Parts, Shared, spanAt, setSpan, newTower, newColumn, newColumns, withSpan, tableAfter, lastAt, relink}
-use Rattle.blockfile.specs.Remove.{without, towersAt}
-use Rattle.blockfile.proofs.Every.{every-left, every-right, every-so}
+use Rattle.blockfile.specs.Bytes.{Every, gather, from}
+use Rattle.blockfile.specs.Layout.{Tower, Column, Table, columns, towersOf, towerIn}
+use Rattle.blockfile.specs.Fields.{LinkedTower}
+use Rattle.blockfile.specs.WellFormed.{nextAt, linkTowers, towersIn, count}
+use Rattle.blockfile.specs.Put.{lastAt, relink}
+use Rattle.blockfile.proofs.Every.{every-left, every-join, every-so}
 use Rattle.blockfile.proofs.Count.{count-here, count-more, count-append}
 use Rattle.laws.proofs.Numbers.{length-word32}
 use Rattle.laws.proofs.Writes.{Fits}
 use Rattle.laws.proofs.State.{towerPages}
-use Rattle.laws.proofs.TowerLinks.{
-  Seat,
-  seatIn,
-  seatsOf,
-  seated,
-  pagesIn,
-  Distinct,
-  nextOr,
-  nextsBefore,
-  linkSeats,
-  Link,
-  linkWrite,
-  setNexts,
-  linkAt,
-  linksTo,
-  stretch,
-  headAs,
-  Low,
-  High,
-  Rise,
-  low-or-high,
-  gather-append,
-  seated-towers,
-  link-split,
-  link-seats,
-  sets-append,
-  sets-apart,
-  link-pages,
-  head-sets,
-  relinking,
-}
+use Rattle.laws.proofs.TowerLinks.{Seat, seatsOf, seated, pagesIn, Distinct, nextsBefore, linkSeats, Link, linkWrite, setNexts, linkAt, linksTo, stretch, headAs, Low, High, Rise, low-or-high, gather-append, seated-towers, link-split, link-seats, sets-append, sets-apart, link-pages, head-sets, relinking}
 
 -- ---- The text's writes as edits
 
@@ -60,6 +25,7 @@ use Rattle.laws.proofs.TowerLinks.{
 abbrev pub relinks : (after : Table) (j h : ℕ) → List Link
 relinks a j h = linksTo (λ i. nextAt i (towersOf (drop j (columns a)))) (a .head .page) (towersOf (take j (columns a))) 0 h
 
+-- the text's writes are these edits
 pub relink-writes : (a : Table) (j h : ℕ) → relink a j h ≡ map linkWrite (relinks a j h)
 unfolding relink
 relink-writes a j h = sym (map-map linkWrite (linkAt (λ i. nextAt i (towersOf (drop j (columns a)))) (a .head .page) (towersOf (take j (columns a)))) (from 0 h))
@@ -70,6 +36,11 @@ relink-writes a j h = sym (map-map linkWrite (linkAt (λ i. nextAt i (towersOf (
 every-from : {A : Type 0} (R : A → Type 0) (f : ℕ → A) (j n : ℕ) → ((i : ℕ) → i < j + n → R (f i)) → Every R (map f (from j n))
 every-from R f j zero h = tt
 every-from R f j (suc n) h = (h j (omega arith), every-from R f (suc j) n (λ i l. h i (omega arith)))
+
+-- what holds of each list gathered holds of all
+pub every-gather : {A B : Type 0} (P : A → Type 0) (R : B → Type 0) (f : A → List B) → ((x : A) → P x → Every R (f x)) → (xs : List A) → Every P xs → Every R (gather f xs)
+every-gather P R f h [] e = tt
+every-gather P R f h (x ∷ xs) e = every-join R (f x) (gather f xs) (h x (e .0)) (every-gather P R f h xs (e .1))
 
 last-among : (i : ℕ) (t : Tower) (ts : List Tower) → 1 ≤ count (lastAt i (t .page) (t ∷ ts)) (pagesIn (t ∷ ts))
 last-among i t ts = go (low-or-high i (t ∷ ts))
@@ -118,9 +89,11 @@ module _ (a : Table) (j h : ℕ) where
 abbrev pub towersBefore : Table → (j : ℕ) → List LinkedTower
 towersBefore t j = linkSeats (λ i. nextAt i (towersOf (drop j (columns t)))) (seatsOf (take j (columns t)))
 
+-- a table's towers, by the ones before place j and the ones from it on
 pub towers-at : (t : Table) (j : ℕ) → towersIn t ≡ towersBefore t j ++ linkTowers (drop j (columns t))
 towers-at t j = ap linkTowers (sym (take-append-drop j (columns t))) ∙ link-split (take j (columns t)) (drop j (columns t))
 
+-- the pages of the towers of two rows
 pub pages-append : (cs ds : List Column) → pagesIn (towersOf (cs ++ ds)) ≡ pagesIn (towersOf cs) ++ pagesIn (towersOf ds)
 pages-append cs ds = ap pagesIn (gather-append (λ (c : Column). towerIn (c .tower)) cs ds) ∙ map-append (λ (t : Tower). t .page) (towersOf cs) (towersOf ds)
 
@@ -179,6 +152,7 @@ table-relinked a w j h ms f r o e =
 
 -- ---- What relinking asks
 
+-- as many links as towers
 pub length-links : (f : ℕ → ℕ) (cs : List Column) → length (linkSeats f (seatsOf cs)) ≡ length (towersOf cs)
 length-links f cs = go (seatsOf cs) ∙ ap length (sym (seated-towers cs))
   where
@@ -195,6 +169,7 @@ prefix-distinct w cs ds o n =
 pub towers-cut : (j : ℕ) (cs : List Column) → towersOf cs ≡ towersOf (take j cs) ++ towersOf (drop j cs)
 towers-cut j cs = ap towersOf (sym (take-append-drop j cs)) ∙ gather-append (λ (c : Column). towerIn (c .tower)) (take j cs) (drop j cs)
 
+-- what holds of all towers holds of the first ones
 pub every-taken : (R : Tower → Type 0) (j : ℕ) (cs : List Column) → Every R (towersOf cs) → Every R (seated (seatsOf (take j cs)))
 every-taken R j cs h =
     subst (Every R) (seated-towers (take j cs))

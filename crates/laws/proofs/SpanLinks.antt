@@ -3,9 +3,9 @@
 use Prim.Native.Nat.{ℕ, zero, suc, _+_, _-_, _<_, _≤_}
 use native.Mathlib.Omega.{arith}
 use native.Mathlib.Numerals.{add-one}
-use mathlib.Core.Path.{_≡_, refl, ap, ap₂, sym, _∙_, subst}
-use mathlib.Core.List.{List, [], _∷_, _++_, map, map-append, append-assoc}
-use lib.ListN.{length, getD, take, drop, length-append, length-take, length-map}
+use mathlib.Core.Path.{_≡_, refl, ap, ap₂, sym, _∙_}
+use mathlib.Core.List.{List, [], _∷_, _++_, map, map-append}
+use lib.ListN.{length, take, drop, length-append, length-take, length-map}
 use lib.Seq.{split-at, append-snoc, take-suc, drop-cons, take-at, drop-at, drop-drop}
 use Rattle.blockfile.specs.Bytes.{firstOf}
 use Rattle.blockfile.specs.Layout.{Span, Column, Table, columns, spansOf}
@@ -17,6 +17,7 @@ use Rattle.blockfile.proofs.Count.{count-here, count-more}
 
 -- ---- Spans in a row
 
+-- a span with its links
 abbrev pub linked : (z p n : ℕ) → Span → LinkedSpan
 linked z p n s = record { span = s; prev = p; next = n; maxKeys = z }
 
@@ -38,6 +39,7 @@ first-page : (ss : List Span) → firstOf (map (λ x. x .page) ss) ≡ firstPage
 first-page [] = refl
 first-page (s ∷ ss) = refl
 
+-- the first page of two rows
 pub first-page-append : (n : ℕ) (xs ys : List Span) → firstPage n (xs ++ ys) ≡ firstPage (firstPage n ys) xs
 first-page-append n [] ys = refl
 first-page-append n (x ∷ xs) ys = refl
@@ -52,6 +54,7 @@ pub between-append : (z p n : ℕ) (xs ys : List Span) → linkBetween z p n (xs
 between-append z p n [] ys = refl
 between-append z p n (x ∷ xs) ys = ap₂ (λ (m : ℕ) (l : List LinkedSpan). linked z p m x ∷ l) (first-page-append n xs ys) (between-append z (x .page) n xs ys)
 
+-- as many as spans
 pub length-between : (z p n : ℕ) (ss : List Span) → length (linkBetween z p n ss) ≡ length ss
 length-between z p n [] = refl
 length-between z p n (s ∷ ss) = ap suc (length-between z (s .page) n ss)
@@ -61,6 +64,7 @@ abbrev pub prevAs : ℕ → List LinkedSpan → List LinkedSpan
 prevAs p [] = []
 prevAs p (x ∷ xs) = linked (x .maxKeys) p (x .next) (x .span) ∷ xs
 
+-- only the first one's previous link depends on the page before
 pub prev-between : (z p q n : ℕ) (ss : List Span) → prevAs q (linkBetween z p n ss) ≡ linkBetween z q n ss
 prev-between z p q n [] = refl
 prev-between z p q n (s ∷ ss) = refl
@@ -137,6 +141,7 @@ abbrev pub spansPast : Table → (i : ℕ) → List Span
 spansPast t i = drop (suc i) (spansOf (columns t))
 
 module _ (t : Table) where
+  -- a table's spans, with the one at place i
   pub spans-here : (i : ℕ) → i < length (columns t) → spansOf (columns t) ≡ spansTo t i ++ spanAt t i ∷ spansPast t i
   unfolding spanAt
   spans-here i l = split-at (spansOf (columns t)) i (t .first) (simp length-map l)
@@ -145,9 +150,11 @@ module _ (t : Table) where
   unfolding spanAt
   past-next i l = drop-cons (spansOf (columns t)) (suc i) (t .first) (simp length-map l)
 
+  -- i spans stand before place i
   pub length-to : (i : ℕ) → i < length (columns t) → length (spansTo t i) ≡ i
   length-to i l = simp (length-take, length-map) (omega arith)
 
+  -- the spans after a rewriting
   pub spans-after : (i : ℕ) (p : Parts) (s : Shared) → i < length (columns t)
       → spansOf (columns (tableAfter t i p s)) ≡ spansTo t i ++ newSpan t i p s ∷ (spansOf (newColumns t p s) ++ spansPast t i)
   unfolding tableAfter
@@ -165,6 +172,7 @@ module _ (t : Table) where
       cs : List Column
       cs = setSpan j x (t .rest)
 
+  -- the spans after an unlinking
   pub spans-out : (i : ℕ) → suc i < length (columns t) → spansOf (columns (without t (suc i))) ≡ spansTo t i ++ spanAt t i ∷ spansPast t (suc i)
   unfolding spanAt
   spans-out i l =
@@ -184,6 +192,7 @@ new-at-most-one t p s = go (s .span)
     go [] = omega arith
     go (n ∷ ns) = omega arith
 
+-- the span size stays
 pub size-after : (t : Table) (i : ℕ) (p : Parts) (s : Shared) → tableAfter t i p s .spanSize ≡ t .spanSize
 unfolding tableAfter
 size-after t zero p s = refl
@@ -272,6 +281,7 @@ module _ (t : Table) (i : ℕ) (inside : suc i < length (columns t)) where
 spans-many : (cs : List Column) → length (spansOf cs) ≡ length cs
 spans-many cs = length-map cs (λ (c : Column). c .span)
 
+-- a rewriting adds the new spans
 pub split-spans : (t : Table) (i : ℕ) (p : Parts) (s : Shared) → i < length (columns t) → length (columns (tableAfter t i p s)) ≡ length (columns t) + length (newColumns t p s)
 split-spans t i p s l =
     omega (
@@ -283,6 +293,7 @@ split-spans t i p s l =
       simp length-append at (ap length (spans-here t i l)),
     )
 
+-- an unlinking takes one
 pub unlinked-spans : (t : Table) (i : ℕ) → suc i < length (columns t) → length (columns t) ≡ suc (length (columns (without t (suc i))))
 unlinked-spans t i l =
     omega (

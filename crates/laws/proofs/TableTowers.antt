@@ -17,7 +17,7 @@ use Rattle.blockfile.specs.Remove.{without, towersAt}
 use Rattle.blockfile.proofs.Every.{every-left, every-right}
 use Rattle.blockfile.proofs.Count.{count-append}
 use Rattle.laws.proofs.SpanLinks.{size-after}
-use Rattle.laws.proofs.TowerLinks.{Seat, seatIn, seatsOf, seated, pagesIn, Distinct, linkSeats, Link, linkWrite, setNexts, stretch, headAs, gather-append, seated-towers, link-split}
+use Rattle.laws.proofs.TowerLinks.{Seat, seatIn, seatsOf, seated, pagesIn, Distinct, nextsBefore, linkSeats, Link, linkWrite, setNexts, stretch, headAs, head-sets, gather-append, seated-towers, link-split}
 use Rattle.laws.proofs.Relinks.{relinks, relink-writes, towersBefore, towers-at, length-links, pages-append, towers-cut, every-taken, rise, table-relinked, table-relinked-low}
 
 -- ---- The table after a rewriting, as linking sees it
@@ -90,6 +90,12 @@ next-new t p s ds i l = go (s .span) (s .tower)
 abbrev pub newLinked : Table → (i : ℕ) → Parts → Shared → List LinkedTower
 newLinked t i p s = linkSeats (λ l. nextAt l (towersOf (drop (suc i) (columns t)))) (seatsOf (newColumns t p s))
 
+-- where no higher tower comes, the head stays
+pub head-kept : (t : Table) (i : ℕ) (p : Parts) (s : Shared) → p .height ≤ t .head .height → tableAfter t i p s .head ≡ t .head
+head-kept t i p s l =
+    let e : max (t .head .height) (p .height) ≡ t .head .height = omega arith in
+    head-after t p s i ∙ ap (λ (h : ℕ). record { page = t .head .page; maxHeight = t .head .maxHeight; height = h }) e
+
 -- ---- A span split
 
 module _ (t : Table) (i : ℕ) (p : Parts) (s : Shared) (inside : i < length (columns t)) where
@@ -129,6 +135,30 @@ module _ (t : Table) (i : ℕ) (p : Parts) (s : Shared) (inside : i < length (co
       agree : (l : ℕ) → p .height ≤ l → l < t .head .height → f l ≡ nextAt l (towersOf (drop i (a .rest)))
       agree l k b = rw (behind-after t p s i inside) (next-new t p s (drop i (t .rest)) l k)
 
+  -- where the head does not rise
+  pub towers-split-low : p .height ≤ t .head .height → Every (λ w. w .height ≤ t .head .height) (towersOf (t .rest)) → Distinct (towersOf (columns (tableAfter t i p s)))
+      → towersIn (tableAfter t i p s)
+      ≡ setNexts (relinks (tableAfter t i p s) (suc i) (p .height)) (towersBefore t (suc i) ++ (newLinked t i p s ++ linkTowers (drop (suc i) (columns t))))
+  towers-split-low b low o =
+      towers-split [] (omega arith) low o
+      ∙ head-sets (tableAfter t i p s .head) ls (first (t .head) (ns ++ [])) others (ap (λ (w : Tower). w .page) (head-after t p s i))
+      ∙ ap₂ (λ (w : Tower) (l : List ℕ). setNexts ls (first w l ∷ others)) (head-kept t i p s b) (append-nil ns)
+    where
+      ls : List Link
+      ls = relinks (tableAfter t i p s) (suc i) (p .height)
+
+      f : ℕ → ℕ
+      f l = nextAt l (towersOf (drop i (t .rest)))
+
+      ns : List ℕ
+      ns = nextsBefore f (t .head .height) (seated (seatsOf (take i (t .rest))))
+
+      others : List LinkedTower
+      others = linkSeats f (seatsOf (take i (t .rest))) ++ (newLinked t i p s ++ linkTowers (drop (suc i) (columns t)))
+
+      first : Tower → List ℕ → LinkedTower
+      first w l = record { tower = w; spanPage = t .first .page; nexts = l }
+
   -- the new tower is what is written whole
   pub tower-written : length (towersOf (newColumns t p s)) ≡ min 1 (p .height)
       → take (min 1 (p .height)) (linkTowers (drop (i + 1) (columns (tableAfter t i p s)))) ≡ newLinked t i p s
@@ -141,12 +171,6 @@ module _ (t : Table) (i : ℕ) (p : Parts) (s : Shared) (inside : i < length (co
   -- and the links are what is written at its levels
   pub split-written : relink (tableAfter t i p s) (i + 1) (p .height) ≡ map linkWrite (relinks (tableAfter t i p s) (suc i) (p .height))
   split-written = ap (λ (n : ℕ). relink (tableAfter t i p s) n (p .height)) (add-one i) ∙ relink-writes (tableAfter t i p s) (suc i) (p .height)
-
--- where no higher tower comes, the head stays
-pub head-kept : (t : Table) (i : ℕ) (p : Parts) (s : Shared) → p .height ≤ t .head .height → tableAfter t i p s .head ≡ t .head
-head-kept t i p s l =
-    let e : max (t .head .height) (p .height) ≡ t .head .height = omega arith in
-    head-after t p s i ∙ ap (λ (h : ℕ). record { page = t .head .page; maxHeight = t .head .maxHeight; height = h }) e
 
 -- ---- A span unlinked
 
@@ -275,6 +299,7 @@ module _ (t : Table) (i : ℕ) (p : Parts) (s : Shared) (inside : i < length (co
       count-between (t .head .page ∷ pagesIn (towersOf (take i (t .rest)))) (pagesIn (towersOf (newColumns t p s))) (pagesIn (towersOf (drop i (t .rest))))
       (pagesIn (towersOf (columns (tableAfter t i p s)))) (pagesIn (towersOf (columns t))) pages-split pages-now
 
+  -- as many towers more as new ones
   pub split-levels : length (towersOf (columns (tableAfter t i p s))) ≡ length (towersOf (columns t)) + length (towersOf (newColumns t p s))
   split-levels =
       omega (
@@ -307,6 +332,7 @@ module _ (t : Table) (k : ℕ) (inside : suc k < length (columns t)) where
       count-between (t .head .page ∷ pagesIn (towersOf (take k (t .rest)))) (pagesIn (towersAt t (suc k))) (pagesIn (towersOf (drop (suc k) (t .rest))))
       (pagesIn (towersOf (columns t))) (pagesIn (towersOf (columns (without t (suc k))))) pages-with pages-without
 
+  -- as many fewer as are gone
   pub unlinked-levels : length (towersOf (columns t)) ≡ length (towersOf (columns (without t (suc k)))) + length (towersAt t (suc k))
   unlinked-levels =
       omega (
@@ -318,6 +344,7 @@ module _ (t : Table) (k : ℕ) (inside : suc k < length (columns t)) where
         pages-many (towersAt t (suc k)),
       )
 
+  -- so no two are on one page, where none were
   pub unlinked-distinct : Distinct (towersOf (columns t)) → Distinct (towersOf (columns (without t (suc k))))
   unlinked-distinct o n = omega (arith, o n, unlinked-count n)
 
@@ -327,6 +354,7 @@ module _ (t : Table) (k : ℕ) (inside : suc k < length (columns t)) where
 abbrev pub recounted : SkipList → (size spans levels : ℕ) → SkipList
 recounted k x y z = record { page = k .page; first = k .first; level = k .level; size = x; spans = y; levels = z; spanSize = k .spanSize }
 
+-- the skip-list page stays
 pub root-after : (t : Table) (i : ℕ) (p : Parts) (s : Shared) → tableAfter t i p s .root ≡ t .root
 unfolding tableAfter
 root-after t zero p s = refl

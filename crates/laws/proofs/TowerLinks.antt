@@ -26,12 +26,14 @@ pub record Seat : Type 0 where
   pub spanPage : ℕ
   pub tower : Tower
 
+-- the seat of a column, if it has a tower
 abbrev pub seatIn : Column → List Seat
 seatIn c = map (λ w. record { spanPage = c .span .page; tower = w }) (towerIn (c .tower))
 
 abbrev pub seatsOf : List Column → List Seat
 seatsOf cs = gather seatIn cs
 
+-- the towers of seats, and their pages
 abbrev pub seated : List Seat → List Tower
 seated xs = map (λ x. x .tower) xs
 
@@ -63,9 +65,11 @@ pub record Link : Type 0 where
   pub level : ℕ
   pub to : ℕ
 
+-- such an edit as a write
 abbrev pub linkWrite : Link → Write
 linkWrite l = on (l .page) (16 + 4 * l .level) (word32 (l .to))
 
+-- the tower, where it is on this page, with entry i set to m
 abbrev pub setEntry : (page i m : ℕ) → LinkedTower → LinkedTower
 setEntry p i m x = record { tower = x .tower; spanPage = x .spanPage; nexts = cond (eqb p (x .tower .page)) (set (x .nexts) i m) (x .nexts) }
 
@@ -73,16 +77,19 @@ setEntry p i m x = record { tower = x .tower; spanPage = x .spanPage; nexts = co
 abbrev pub setNext : (page i m : ℕ) → List LinkedTower → List LinkedTower
 setNext p i m xs = map (setEntry p i m) xs
 
+-- several edits, the first one first
 abbrev pub setNexts : List Link → List LinkedTower → List LinkedTower
 setNexts [] xs = xs
 setNexts (l ∷ ls) xs = setNexts ls (setNext (l .page) (l .level) (l .to) xs)
 
 -- ---- Seats of columns
 
+-- what is gathered from two lists
 pub gather-append : {A B : Type 0} (f : A → List B) (xs ys : List A) → gather f (xs ++ ys) ≡ gather f xs ++ gather f ys
 gather-append f [] ys = refl
 gather-append f (x ∷ xs) ys = rw (gather-append f xs ys) (sym (append-assoc (f x) (gather f xs) (gather f ys)))
 
+-- seats hold the columns' towers
 pub seated-towers : (cs : List Column) → towersOf cs ≡ seated (seatsOf cs)
 seated-towers [] = refl
 seated-towers (c ∷ cs) = go (c .tower) (seated-towers cs)
@@ -94,14 +101,17 @@ seated-towers (c ∷ cs) = go (c .tower) (seated-towers cs)
 
 -- ---- The next tower
 
+-- the next tower as the text has it
 pub next-or : (i : ℕ) (ts : List Tower) → nextAt i ts ≡ nextOr i 0 ts
 next-or i [] = refl
 next-or i (t ∷ ts) = ap (cond (ltb i (t .height)) (t .page)) (next-or i ts)
 
+-- the next tower in two rows
 pub next-append : (i e : ℕ) (ts us : List Tower) → nextOr i e (ts ++ us) ≡ nextOr i (nextOr i e us) ts
 next-append i e [] us = refl
 next-append i e (t ∷ ts) us = ap (cond (ltb i (t .height)) (t .page)) (next-append i e ts us)
 
+-- the next tower among columns, by their seats
 pub next-seats : (i : ℕ) (cs : List Column) → nextAt i (towersOf cs) ≡ nextOr i 0 (seated (seatsOf cs))
 next-seats i cs = next-or i (towersOf cs) ∙ ap (nextOr i 0) (seated-towers cs)
 
@@ -124,6 +134,7 @@ link-append f (x ∷ xs) ys = λ j. record { tower = x .tower; spanPage = x .spa
     next : (i : ℕ) → nextOr i (f i) (seated (xs ++ ys)) ≡ nextOr i (nextOr i (f i) (seated ys)) (seated xs)
     next i = ap (nextOr i (f i)) (map-append (λ (x : Seat). x .tower) xs ys) ∙ next-append i (f i) (seated xs) (seated ys)
 
+-- the towers of columns, by the ones before and the ones behind
 pub link-split : (cs ds : List Column) → linkTowers (cs ++ ds) ≡ linkSeats (λ i. nextAt i (towersOf ds)) (seatsOf cs) ++ linkTowers ds
 link-split cs ds =
     link-seats (cs ++ ds)
@@ -148,6 +159,7 @@ distinct-rest t ts o n = omega (arith, o n, count-more n (t .page) (pagesIn ts))
 
 -- ---- Edits
 
+-- edits of two rows
 pub sets-append : (ls : List Link) (xs ys : List LinkedTower) → setNexts ls (xs ++ ys) ≡ setNexts ls xs ++ setNexts ls ys
 sets-append [] xs ys = refl
 sets-append (l ∷ ls) xs ys =
@@ -161,6 +173,7 @@ set-apart p i m (x ∷ xs) z =
     (rw (first-apart p (x .tower .page) (towerPages xs) z))
     (set-apart p i m xs (omega (arith, count-more p (x .tower .page) (towerPages xs))))
 
+-- edits on no page of theirs leave towers as they are
 pub sets-apart : (ls : List Link) (xs : List LinkedTower) → Every (λ l. count (l .page) (towerPages xs) ≡ 0) ls → setNexts ls xs ≡ xs
 sets-apart [] xs h = refl
 sets-apart (l ∷ ls) xs h = ap (setNexts ls) (set-apart (l .page) (l .level) (l .to) xs (h .0)) ∙ sets-apart ls xs (h .1)
@@ -170,6 +183,7 @@ pub sets-pages : (ls : List Link) (xs : List LinkedTower) → towerPages (setNex
 sets-pages [] xs = refl
 sets-pages (l ∷ ls) xs = sets-pages ls (setNext (l .page) (l .level) (l .to) xs) ∙ map-map (λ (x : LinkedTower). x .tower .page) (setEntry (l .page) (l .level) (l .to)) xs
 
+-- links are of the towers in the seats
 pub link-pages : (f : ℕ → ℕ) (xs : List Seat) → towerPages (linkSeats f xs) ≡ pagesIn (seated xs)
 link-pages f [] = refl
 link-pages f (x ∷ xs) = ap (λ (l : List ℕ). x .tower .page ∷ l) (link-pages f xs)
@@ -200,6 +214,7 @@ pub record High (k : ℕ) (ts : List Tower) : Type 0 where
   pub last : (p : ℕ) → 1 ≤ count (lastAt k p ts) (pagesIn ts)
   pub next : (e d : ℕ) → nextOr k e ts ≡ nextOr k d ts
 
+-- a level has no tower of the list above it, or one
 pub low-or-high : (k : ℕ) (ts : List Tower) → Low k ts ⊎ High k ts
 low-or-high k [] = inl (record { last = λ p. refl; next = λ e. refl })
 low-or-high k (t ∷ ts) = go (ltb k (t .height)) refl (low-or-high k ts)
@@ -299,6 +314,7 @@ link-same f g h e (x ∷ xs) l = λ j. record { tower = x .tower; spanPage = x .
 abbrev pub linkAt : (f : ℕ → ℕ) (p : ℕ) (ts : List Tower) (i : ℕ) → Link
 linkAt f p ts i = record { page = lastAt i p ts; level = i; to = f i }
 
+-- so at n levels from j on
 abbrev pub linksTo : (f : ℕ → ℕ) (p : ℕ) (ts : List Tower) (j n : ℕ) → List Link
 linksTo f p ts j n = map (linkAt f p ts) (from j n)
 

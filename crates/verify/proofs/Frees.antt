@@ -15,7 +15,7 @@ use Rattle.pages.proofs.Marks.{begins-take, take-begins}
 use Rattle.walks.specs.declared.Walked.{Walked}
 use Rattle.walks.specs.declared.Walked.the-variants.{Refused, Done}
 use Rattle.walks.specs.Found.{Open, claims, zeros, Found, FindsAt}
-use Rattle.walks.proofs.Founds.{SameAt, same-start, same-turn, finds-none, finds-done, found-none, found-join, found-first, found-second, claimable-open, zeros-claims, length-claimed, length-claims}
+use Rattle.walks.proofs.Founds.{SameAt, same-start, same-turn, finds-none, finds-done, done-injective, refused-never, found-none, found-join, found-first, found-second, claimable-open, zeros-claims, length-claimed, length-claims}
 use Rattle.walks.proofs.Pieces.{Single, found-claimable, found-rest, found-cons, claim-done, claim-not}
 use Rattle.verify.specs.Free.{numbersAt, ListedFound, BlockFound, FreeFound}
 
@@ -106,12 +106,6 @@ module _ (img scr₀ scr : List ℕ) (p count i : ℕ) (v : Listing img scr₀ s
 block-single : (img : List ℕ) (p n : ℕ) (ns : List ℕ) → Single img (block (record { page = p; listed = ns }) n) p 5
 unfolding blockMark
 block-single img p n ns = record { page = refl; mark = λ b. take-begins blockMark (pg img p) (b .mark) }
-
-done-injective : (a b : ℕ) → Done a ≡ Done b → a ≡ b
-done-injective a b e = cc
-
-refused-never : (a : ℕ) → Refused ≡ Done a → ⊥
-refused-never a e = let z : _≡_ {A = ℕ} 0 1 = cc in omega arith
 
 module _ (img scr : List ℕ) (p : ℕ) where
   -- the block's page, with the fields that its bytes have

@@ -16,6 +16,8 @@ use Rattle.blockfile.proofs.Every.{every-left, every-right, every-join}
 use Rattle.blockfile.proofs.Owned.{ownedBy, owned-append}
 use Rattle.pages.specs.Begins.{begins}
 use Rattle.pages.specs.Claims.{claimable, claimed}
+use Rattle.walks.specs.declared.Walked.{Walked}
+use Rattle.walks.specs.declared.Walked.the-variants.{Refused, Done}
 use Rattle.walks.specs.Found.{Open, Fresh, claims, zeros, Found, Decides, FindsAt}
 
 -- ---- Claims
@@ -140,6 +142,9 @@ module _ {A : Type 0} where
   same-turn p q = record { to = λ a s x. q .to a s (p .to a s x); back = λ a s x. p .back a s (q .back a s x) }
 
 module _ {A R : Type 0} (done : A → R) {F G : A → List ℕ → Type 0} (r : R) (s : List ℕ) (c : SameAt F G) where
+  pub finds-same : FindsAt done F r s → FindsAt done G r s
+  finds-same f = record { sound = λ a e. c .to a s (f .sound a e); complete = λ a t g. f .complete a t (c .back a t g) }
+
   -- the walk is refused: the answer is no `done`, and nothing is to be found from here
   pub finds-none : ((a : A) → r ≡ done a → ⊥) → ((a : A) (t : List ℕ) → F a t → ⊥) → FindsAt done G r s
   finds-none never n = record { sound = λ a e. absurd (never a e); complete = λ a t g. absurd (n a t (c .back a t g)) }
@@ -151,3 +156,11 @@ module _ {A R : Type 0} (done : A → R) {F G : A → List ℕ → Type 0} (r : 
         sound = λ b q. c .to b s (subst (λ (x : A). F x s) (inj a b (sym e ∙ q)) f);
         complete = λ b t g. let o : (a ≡ b) × (s ≡ t) = only b t (c .back b t g) in (e ∙ ap done (o .0), o .1);
       }
+
+-- ---- The answer `Walked`
+
+pub done-injective : (a b : ℕ) → Done a ≡ Done b → a ≡ b
+done-injective a b e = cc
+
+pub refused-never : (a : ℕ) → Refused ≡ Done a → ⊥
+refused-never a e = let z : _≡_ {A = ℕ} 0 1 = cc in omega arith

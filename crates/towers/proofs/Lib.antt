@@ -1,0 +1,4 @@
+pub mod Levels
+pub mod Ways
+pub mod Climbs
+pub mod Heads

@@ -1,0 +1,106 @@
+-- `claim_others` meets its contract. The loop's invariant is `Climbing`; the measure is the pages that are not claimed.
+use Prim.Native.Nat.{_≤_}
+use mathlib.Core.Path.{refl, _∙_}
+use native.Mathlib.Omega.{arith}
+use borrow.Author.Needs.{needs}
+use borrow.Author.Tests.{not-true, not-false}
+use Rattle.walks.specs.Found.{zeros}
+use Rattle.walks.proofs.Founds.{zeros-most}
+use Rattle.towers.proofs.Climbs.{Climbing, climbing-start, climbing-open, climbing-end, climbing-no, Turn, climbing-turn, climbing-next}
+use Rattle.towers.proofs.claim_others.Statement.{statement}
+use Rattle.towers.proofs.claim_others.Tie as tie
+
+abbrev Inv-loop : tie.InvT-loop
+Inv-loop image scratch₀ head top start levels₀ next₀ count₀ page₀ scratch levels next count page =
+    Climbing image scratch₀ head top start scratch levels next count page
+
+abbrev μ-loop : tie.MeasureT-loop
+μ-loop image scratch₀ head top start levels₀ next₀ count₀ page₀ scratch levels next count page = zeros scratch
+
+follow-requires : tie.Need-follow-requires Inv-loop μ-loop
+follow-requires c κs = search needs
+
+loop-holds : tie.Need-loop-holds Inv-loop μ-loop
+loop-holds c = climbing-start _ _ _ _ _ _ _ (c .before .before .before .before .pre .2) refl refl (c .follow .ensures)
+
+place-tower-requires : tie.Need-place-tower-requires Inv-loop μ-loop
+place-tower-requires c κs = (omega arith, record { size = omega arith; most = omega arith }, c .before .before .before .loop .inv .linked)
+
+returns : tie.Need-returns Inv-loop μ-loop
+returns c =
+    let placed = c .before .before .before .before in
+    let in-loop = placed .before .before .before in
+    climbing-no _ _ _ _ _ _ _ _ _ _ (in-loop .before .loop .inv) (in-loop .loop-test .taken) _ _ (placed .place-tower .ensures) (c .enum-told .given .1)
+
+-- a turn that goes on
+turn : (c : tie.After-known-told Inv-loop μ-loop)
+    → let a = c .before .before .before .before .before .before .before .before .before .before .before .before .before .before .args in
+    let l = c .before .before .before .before .before .before .before .before .before .loop in
+    Turn (a .image .now) (l .scratch) (a .top) (l .page) (c .before .height .given .0 .0) (c .before .before .before .before .before .place-tower .last .1 .0)
+turn c =
+    let placed = c .before .before .before .before .before in
+    let in-loop = placed .before .before .before in
+    climbing-turn _ _ _ _ _ _ _ _ _ _ (in-loop .before .loop .inv) (in-loop .loop-test .taken) _ _ (placed .place-tower .ensures) _ (c .before .height .given .1)
+
+follow-requires-2 : tie.Need-follow-requires-2 Inv-loop μ-loop
+follow-requires-2 c κs =
+    let t = turn (c .before) in
+    (record { small = omega arith; low = omega arith; high = omega arith; fits = omega arith }, omega arith)
+
+get32-requires : tie.Need-get32-requires Inv-loop μ-loop
+get32-requires c κs = let t = turn (c .before .before) in record { small = omega arith; low = omega arith; high = omega arith; fits = omega arith }
+
+get32-requires-2 : tie.Need-get32-requires-2 Inv-loop μ-loop
+get32-requires-2 c κs =
+    let t = turn (c .before .before .before) in record { small = omega arith; low = omega arith; high = omega arith; fits = omega arith }
+
+add-count : tie.Need-add-count Inv-loop μ-loop
+add-count c =
+    let k = c .before .before .before .before in
+    let s = k .before .before .before .before .before .before .before .before .before .before .before .before .before .before in
+    omega (arith, turn k .falls, zeros-most (s .args .scratch .now), s .pre .0 .most)
+
+loop-again : tie.Need-loop-again Inv-loop μ-loop
+loop-again c =
+    let k = c .before .before .before .before in
+    let placed = k .before .before .before .before .before in
+    let in-loop = placed .before .before .before in
+    climbing-next _ _ _ _ _ _ _ _ _ _ (in-loop .before .loop .inv) (in-loop .loop-test .taken) _ _ (placed .place-tower .ensures) _ (k .before .height .given .1)
+    _ (c .before .before .follow2 .ensures) _ _ (c .before .get32 .ensures .is) (c .get322 .ensures .is)
+
+returns-2 : tie.Need-returns-2 Inv-loop μ-loop
+returns-2 c =
+    let done = c .before .before .before in
+    climbing-open _ _ _ _ _ _ _ _ _ _ (done .before .loop .inv) (done .loop-test .left) _ (c .before .all-are .ensures) (not-true _ (c .if1 .taken))
+
+returns-3 : tie.Need-returns-3 Inv-loop μ-loop
+returns-3 c =
+    let done = c .before .before .before in
+    climbing-end _ _ _ _ _ _ _ _ _ _ (done .before .loop .inv) (done .loop-test .left) _ (c .before .all-are .ensures) (not-false _ (c .if1 .left))
+
+pub claim-others-spec : {M : Type 1} → statement M
+claim-others-spec =
+    tie.close
+    (tie.spec
+    Inv-loop
+    μ-loop
+    follow-requires
+    (λ c. search needs)
+    loop-holds
+    place-tower-requires
+    (λ c. search needs)
+    (λ c. search needs)
+    (λ c. c .before .before .before .before .place-tower .kept .1 .0 ∙ c .before .before .before .before .before .before .before .before .loop .inv .long)
+    returns
+    follow-requires-2
+    get32-requires
+    get32-requires-2
+    add-count
+    (λ c. search needs)
+    (λ c. omega (arith, turn (c .before .before .before .before) .falls))
+    loop-again
+    (λ c κs. omega arith)
+    (λ c. c .before .before .before .before .loop .inv .long)
+    returns-2
+    (λ c. c .before .before .before .before .loop .inv .long)
+    returns-3)

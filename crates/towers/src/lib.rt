@@ -1,0 +1,155 @@
+// The towers of a table, after its spans: the head, which stands on the first span, and the towers of the other spans.
+ghost use mathlib.Core.Path.{_≡_};
+ghost use Prim.Native.Nat.{ℕ, _*_, _≤_};
+ghost use mathlib.Core.List.{List};
+ghost use lib.ListN.{length};
+ghost use Rattle.blockfile.specs.Layout.{Span};
+ghost use Rattle.pages.specs.Places.{Inside};
+ghost use Rattle.pages.specs.Claims.{Lent};
+ghost use Rattle.walks.specs.Found.{Decides, FindsAt};
+ghost use Rattle.walks.specs.declared.Walked.the-variants.{Done};
+ghost use Rattle.towers.specs.Towers.{Spanned, HasSpans, TowersFound};
+ghost use Rattle.towers.specs.Climb.{AllAre, Followed, Linked, Reach, Tall, TowerFound, Placed, Climb, entryAt};
+use pages::claim::claim;
+use pages::mark::TOWER;
+use pages::read::get16;
+use pages::read::get32;
+use walks::Walked;
+
+// Whether the first `n` levels all expect page `v`.
+fn all_are(levels: &[usize; 252], n: usize, v: usize) -> bool
+    requires { ⌜ n ≤ 252 ⌝ }
+    ensures { λ r. ⌜ Decides (AllAre (now (levels .entry)) n v) r ⌝ }
+{
+    let mut i = 0;
+    while i < n {
+        if levels[i] != v {
+            return false;
+        }
+        i += 1;
+    }
+    true
+}
+
+// The first `height` levels now expect the entries of the tower on `page`.
+fn follow(image: &[u8], levels: &mut [usize; 252], page: usize, height: usize)
+    requires { ⌜ Inside (now image) page 16 (4 * height) × (length (now levels) ≡ 252) ⌝ }
+    ensures { λ _. ⌜ Followed (now (image .entry)) page height (now (levels .entry)) (now (levels .exit)) ⌝ }
+{
+    let mut i = 0;
+    while i < height {
+        levels[i] = get32(image, page, 16 + 4 * i);
+        i += 1;
+    }
+}
+
+// Whether `target` is one of the spans from `start` on.
+fn reaches(image: &[u8], start: usize, target: usize) -> bool
+    requires { ⌜ (length (now image) ≤ 4194304) × Linked (now image) start ⌝ }
+    ensures { λ r. ⌜ Decides (Reach (now (image .entry)) start target) r ⌝ }
+{
+    let mut span = start;
+    while span != 0 {
+        if span == target {
+            return true;
+        }
+        span = get32(image, span, 12);
+    }
+    false
+}
+
+// Whether a tower may have this max height, and a current height that is to be `low` to `high`.
+fn is_tall(low: usize, high: usize, max: usize, height: usize) -> bool
+    ensures { λ r. ⌜ Decides (Tall low high max height) r ⌝ }
+{
+    if 1 <= max && max <= 252 && height <= max && low <= height && height <= high {
+        true
+    } else {
+        false
+    }
+}
+
+// Claims the tower on `page`, whose current height must be `low` to `high`; answers that height.
+fn claim_tower(image: &[u8], scratch: &mut [u8], page: usize, low: usize, high: usize) -> Walked
+    requires { ⌜ Lent (now image) (now scratch) ⌝ }
+    ensures { λ r. ⌜ FindsAt Done (TowerFound (now (image .entry)) (now (scratch .entry)) low high page) r (now (scratch .exit)) ⌝ }
+{
+    if !claim(image, scratch, page, TOWER) {
+        return Walked::Refused;
+    }
+    let height = get16(image, page, 10);
+    if !is_tall(low, high, get16(image, page, 8), height) {
+        return Walked::Refused;
+    }
+    Walked::Done(height)
+}
+
+// Claims the tower on `page`, which must stand on one of the spans from `start` on and be expected at each of its levels;
+// answers its height.
+fn place_tower(
+    image: &[u8],
+    scratch: &mut [u8],
+    levels: &[usize; 252],
+    start: usize,
+    page: usize,
+    top: usize,
+) -> Walked
+    requires { ⌜ (top ≤ 252) × Lent (now image) (now scratch) × Linked (now image) start ⌝ }
+    ensures { λ r. ⌜ FindsAt Done (Placed (now (image .entry)) (now (scratch .entry)) top (now (levels .entry)) start page) r (now (scratch .exit)) ⌝ }
+{
+    let Walked::Done(height) = claim_tower(image, scratch, page, 1, top) else {
+        return Walked::Refused;
+    };
+    let span = get32(image, page, 12);
+    if !reaches(image, start, span) {
+        return Walked::Refused;
+    }
+    if !all_are(levels, height, page) {
+        return Walked::Refused;
+    }
+    Walked::Done(height)
+}
+
+// Claims the towers of the spans from `start` on, where the first `top` entries of the head lead to them; answers their
+// number and 1, for the head. Each turn claims a tower, and each span is passed once in all.
+fn claim_others(image: &[u8], scratch: &mut [u8], head: usize, top: usize, start: usize) -> Walked
+    requires { ⌜ Lent (now image) (now scratch) × Inside (now image) head 16 (4 * top) × Linked (now image) start ⌝ }
+    ensures { λ r. ⌜ FindsAt Done (Climb (now (image .entry)) (now (scratch .entry)) top start (entryAt (now (image .entry)) head) 1) r (now (scratch .exit)) ⌝ }
+{
+    let mut levels = [0usize; 252];
+    follow(image, &mut levels, head, top);
+    let mut next = start;
+    let mut count = 1;
+    let mut page = levels[0];
+    while page != 0 {
+        let Walked::Done(height) = place_tower(image, scratch, &levels, next, page, top) else {
+            return Walked::Refused;
+        };
+        follow(image, &mut levels, page, height);
+        let span = get32(image, page, 12);
+        next = get32(image, span, 12);
+        count += 1;
+        page = levels[0];
+    }
+    if !all_are(&levels, top, 0) {
+        return Walked::Refused;
+    }
+    Walked::Done(count)
+}
+
+// Claims the head on `head`, which must stand on the span on `first`, and the towers of the spans after it; answers the
+// number of towers.
+pub fn verify_towers(image: &[u8], scratch: &mut [u8], head: usize, first: usize) -> Walked
+    requires { ⌜ Lent (now image) (now scratch) × HasSpans (now image) first ⌝ }
+    ensures { λ r. ⌜ ((z : ℕ) (s : Span) (others : List Span) → Spanned (now (image .entry)) first z s others
+        → FindsAt Done (TowersFound (now (image .entry)) (now (scratch .entry)) head s others) r (now (scratch .exit))) ⌝ }
+{
+    let Walked::Done(top) = claim_tower(image, scratch, head, 0, 252) else {
+        return Walked::Refused;
+    };
+    if get32(image, head, 12) != first {
+        return Walked::Refused;
+    }
+    let start = get32(image, first, 12);
+    claim_others(image, scratch, head, top, start)
+}
