@@ -2,7 +2,6 @@
 use Prim.Native.Nat.{ℕ}
 use native.Mathlib.Omega.{arith}
 use mathlib.Core.Path.{_≡_}
-use borrow.Author.Needs.{needs}
 use Rattle.entries.proofs.key.on_page.Statement.{statement}
 use Rattle.entries.proofs.key.on_page.Tie as tie
 

@@ -1,0 +1,9 @@
+pub mod Sorts
+pub mod Rules
+pub mod Runs
+pub mod Bridge
+pub mod PageClaims
+pub mod Readings
+pub mod Spans
+pub mod Chains
+pub mod Tables

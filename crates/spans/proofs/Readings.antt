@@ -1,0 +1,136 @@
+-- The ways through `read_span`.
+use Prim.Native.Nat.{ℕ, zero, suc, _+_, _*_, _-_, _/_, _≤_, _<_}
+use native.Mathlib.Omega.{arith}
+use mathlib.Core.Path.{_≡_, refl, ap, sym, _∙_, subst}
+use mathlib.Core.List.{List, _∷_}
+use lib.ListN.{length, drop, length-drop}
+use Rattle.blockfile.specs.Bytes.{pg, be16, be32}
+use Rattle.blockfile.specs.Layout.{Entry, entriesEnd, reached}
+use Rattle.pages.specs.Places.{Number}
+use Rattle.entries.specs.declared.place.Place.{Place}
+use Rattle.entries.specs.Places.{streamOf, Rest}
+use Rattle.entries.proofs.Rests.{length-stream, conts-one, rest-in}
+use Rattle.entries.proofs.Keys.{key-one}
+use Rattle.spans.specs.declared.Rule.{Rule}
+use Rattle.spans.specs.declared.entry.Last.{Last}
+use Rattle.spans.specs.declared.entry.Entered.{Entered}
+use Rattle.spans.specs.declared.entry.Entered.the-variants.{Bad, Read}
+use Rattle.spans.specs.declared.span.Spanned.{Spanned}
+use Rattle.spans.specs.declared.span.Spanned.the-variants.{Wrong, Right}
+use Rattle.spans.specs.Entries.{lastKey, taken, keyOf, Run, LastIs, Ready, Ended, Ends, Entering}
+use Rattle.spans.specs.Parts.{spanOn, SpanIs, ReadySpan, SpanSays, Reading}
+use Rattle.spans.proofs.Bridge.{Listed, run-listed, listed-run}
+
+-- entries that end at e reach 1 + m pages
+pages-by : (e m : ℕ) → 1016 * m < e → e ≤ 1016 * (1 + m) → 1 + m ≡ (e + 1015) / 1016
+pages-by e m h k = omega arith
+
+pages-of : (e m : ℕ) → 1 + m ≡ (e + 1015) / 1016 → (1016 * m < e) × (e ≤ 1016 * (1 + m))
+pages-of e m h = (omega arith, omega arith)
+
+run-one : (rule : Rule) (n : ℕ) (s low t hi u ho : List ℕ) → Run rule s low n t hi → Run rule s low n u ho → t ≡ u
+run-one rule zero s low t hi u ho a b = sym (a .0) ∙ b .0
+run-one rule (suc n) s low t hi u ho a b = run-one rule n (drop (taken s) s) (keyOf s) t hi u ho (a .2) (b .2)
+
+module _ {img : List ℕ} {p more : ℕ} {l : Last} (r : ReadySpan img p more l) where
+  abbrev st : List ℕ
+  st = streamOf img (p ∷ r .conts)
+
+  whole : length st ≡ 1016 * (1 + length (r .conts))
+  whole = omega (arith, length-stream img (p ∷ r .conts) (r .pages .page, r .pages .inside))
+
+  from-20 : Rest img (record { page = p; offset = 20 }) (drop 12 st)
+  from-20 =
+      rest-in img (record { page = p; offset = 8 }) st
+      (record {
+        small = r .pages .small;
+        page = r .pages .page;
+        low = omega arith;
+        high = omega arith;
+        more = r .conts;
+        linked = r .pages .linked;
+        conts = r .pages .are;
+        inside = r .pages .inside;
+        is = refl;
+      })
+      12 (omega arith)
+
+  pub span-ready : Ready img (record { page = p; offset = 20 }) (1004 + 1016 * more) l
+  span-ready = record { bytes = drop 12 st; rest = from-20; long = rw length-drop (omega (arith, whole, r .long)); low = r .low; key = r .key }
+
+  module _ (rule : Rule) (prev z : ℕ) where
+    -- what is shown of these continuation pages and this last key is shown of all
+    all-of : (a : Spanned) → SpanSays rule img p (r .conts) prev z (r .low) a → Reading rule img p prev z l a
+    all-of a x = record {
+      is = λ conts low c k.
+          subst (λ (y : List ℕ). SpanSays rule img p conts prev z y a) (key-one img (l .at) (l .length) (r .low) low (r .key) k)
+          (subst (λ (y : List ℕ). SpanSays rule img p y prev z (r .low) a)
+          (conts-one img (r .conts) conts (r .pages .inside) (c .inside) (sym (r .pages .linked) ∙ c .linked) (r .pages .are) (c .are)) x);
+    }
+
+    module _ {n : ℕ} (e : Number (be16 (pg img p) 18) 65536 n) where
+      -- the run that the entries of a span are, and where it ends
+      record Ran (es : List Entry) : Type 0 where
+        run : Run rule (drop 12 st) (r .low) n (drop (entriesEnd 12 es) st) (lastKey (r .low) es)
+        after : 1016 * length (r .conts) < entriesEnd 12 es
+        inside : entriesEnd 12 es ≤ length st
+
+      ran : (es : List Entry) (next : ℕ) → SpanIs rule img prev z (r .low) (spanOn p (r .conts) es) next → Ran es
+      unfolding reached
+      ran es next b =
+          let w : (1016 * length (r .conts) < entriesEnd 12 es) × (entriesEnd 12 es ≤ 1016 * (1 + length (r .conts))) = pages-of (entriesEnd 12 es) (length (r .conts)) (b .ok .reach) in
+          let end : entriesEnd 12 es ≤ length st = omega (arith, whole, w .1) in
+          record {
+            run = subst (λ (y : ℕ). Run rule (drop 12 st) (r .low) y (drop (entriesEnd 12 es) st) (lastKey (r .low) es)) (sym (b .bears .size) ∙ sym (e .is))
+                (listed-run rule st (1 + length (r .conts)) whole es 12 (r .low) (omega (arith, whole)) (b .bears .entries) (b .ok .above) (b .ok .fine) end);
+            after = w .0;
+            inside = end;
+          }
+
+      module _ {a : Entered} (x : Entering rule img (record { page = p; offset = 20 }) l n a) where
+        told : (b : Entered) → a ≡ b → Ends rule img (drop 12 st) (r .low) n b
+        told b f = subst (Ends rule img (drop 12 st) (r .low) n) f (x .is (drop 12 st) (r .low) from-20 (r .key))
+
+        pub read-bad : a ≡ Bad → Reading rule img p prev z l Wrong
+        read-bad f = all-of Wrong (λ es next b. told Bad f (drop (entriesEnd 12 es) st) (lastKey (r .low) es) (ran es next b .run))
+
+        module _ {at : Place} {left : ℕ} {k : Last} (f : a ≡ Read at left k) where
+          d : Ended rule img (drop 12 st) (r .low) n at left k
+          d = told (Read at left k) f
+
+          pub read-spare : 1016 ≤ left → Reading rule img p prev z l Wrong
+          read-spare h = all-of Wrong (λ es next b.
+              let y : Ran es = ran es next b in
+              let q : d .bytes ≡ drop (entriesEnd 12 es) st = run-one rule n (drop 12 st) (r .low) (d .bytes) (d .hi) (drop (entriesEnd 12 es) st) (lastKey (r .low) es) (d .run) (y .run) in
+              omega (arith, ap length q, length-drop (entriesEnd 12 es) st, whole, d .long, y .after, y .inside))
+
+          pub read-done : left < 1016 → n ≤ z → {m : ℕ} → Number (be16 (pg img p) 16) 65536 m → m ≡ z → {g : ℕ} → Number (be32 (pg img p) 8) 4294967296 g → g ≡ prev
+              → {next : ℕ} → Number (be32 (pg img p) 12) 4294967296 next → Reading rule img p prev z l (Right n next k)
+          unfolding reached
+          read-done h most {m} mi mz {g} gi gp {next} ni =
+              let y : Listed rule st (1 + length (r .conts)) whole 12 (r .low) n (d .bytes) (d .hi)
+              = run-listed rule st (1 + length (r .conts)) whole n 12 (r .low) (d .bytes) (d .hi) (omega (arith, whole)) (d .run) in
+              all-of (Right n next k) (record {
+                entries = y .es;
+                is = record {
+                  bears = record {
+                    mark = r .pages .marked;
+                    cont = r .pages .linked;
+                    prev = sym (gi .is) ∙ gp;
+                    next = sym (ni .is);
+                    maxKeys = sym (mi .is) ∙ mz;
+                    size = sym (e .is) ∙ sym (y .count);
+                    conts = r .pages .are;
+                    entries = y .entries;
+                  };
+                  ok = record {
+                    size = omega (arith, y .count);
+                    reach = pages-by (entriesEnd 12 (y .es)) (length (r .conts))
+                        (omega (arith, ap length (y .left), length-drop (entriesEnd 12 (y .es)) st, whole, d .long, y .end)) (omega (arith, whole, y .end));
+                    above = y .above;
+                    fine = y .fine;
+                  };
+                };
+                count = sym (y .count);
+                key = subst (LastIs img k) (y .last) (d .key);
+              })

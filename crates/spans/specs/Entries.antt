@@ -1,0 +1,95 @@
+-- Entries as a walk meets them: read off what is left of a stream of whole pages.
+use Prim.Native.Nat.{ℕ, zero, suc, _+_, _%_, _≤_}
+use mathlib.Core.Path.{_≡_}
+use mathlib.Core.Bool.{Bool, cond, _&&_}
+use mathlib.Core.List.{List, [], _∷_}
+use lib.ListN.{length, take, drop}
+use lib.Dec.{T, ltb}
+use Rattle.blockfile.specs.Bytes.{be16}
+use Rattle.blockfile.specs.Layout.{Entry}
+use Rattle.blockfile.specs.Order.{bytesBelow}
+use Rattle.entries.specs.declared.place.Place.{Place}
+use Rattle.entries.specs.Places.{Rest}
+use Rattle.entries.specs.Keys.{KeyAt}
+use Rattle.spans.specs.declared.Rule.{Rule}
+use Rattle.spans.specs.declared.entry.Last.{Last}
+use Rattle.spans.specs.declared.entry.Entered.{Entered}
+use Rattle.spans.specs.declared.entry.Entered.the-variants.{Bad, Read}
+use Rattle.spans.specs.Spans.{ruleOf, sized}
+
+-- a key may stand in the table, with a value of v bytes
+abbrev pub fits : Rule → (k : List ℕ) (v : ℕ) → Bool
+fits rule k v = sized rule v && ruleOf rule .allowed k
+
+pub record Allowed (rule : Rule) (img : List ℕ) (at : Place) (n v : ℕ) (r : Bool) : Type 0 where
+  pub is : (k : List ℕ) → KeyAt img at n k → r ≡ fits rule k v
+
+-- keys rise strictly, from above k on
+abbrev pub Above : List ℕ → List Entry → Type 0
+Above k [] = Unit {0}
+Above k (e ∷ es) = T (bytesBelow k (e .key)) × Above (e .key) es
+
+-- the last key, k if there is no entry
+abbrev pub lastKey : List ℕ → List Entry → List ℕ
+lastKey k [] = k
+lastKey k (e ∷ es) = lastKey (e .key) es
+
+-- ---- The entry at the start of what is left, s: whole pages end where s ends, so its length says where the page ends
+
+-- the bytes up to its length bytes
+unfoldable pub skip : List ℕ → ℕ
+skip s = cond (ltb (length s % 1016) 4) (length s % 1016) 0
+
+unfoldable pub keyLength : List ℕ → ℕ
+keyLength s = be16 (drop (skip s) s) 0
+
+unfoldable pub valueLength : List ℕ → ℕ
+valueLength s = be16 (drop (skip s) s) 2
+
+unfoldable pub keyOf : List ℕ → List ℕ
+keyOf s = take (keyLength s) (drop (skip s + 4) s)
+
+-- the bytes that it takes
+unfoldable pub taken : List ℕ → ℕ
+taken s = skip s + 4 + (keyLength s + valueLength s)
+
+-- n entries stand in s, their keys rise from above low on; t is what is left after them and hi the last key
+abbrev pub Run : Rule → (s low : List ℕ) (n : ℕ) (t hi : List ℕ) → Type 0
+Run rule s low zero t hi = (s ≡ t) × (low ≡ hi)
+Run rule s low (suc n) t hi =
+    (taken s ≤ length s) × (T (bytesBelow low (keyOf s)) × T (fits rule (keyOf s) (valueLength s))) × Run rule (drop (taken s) s) (keyOf s) n t hi
+
+-- ---- The walk
+
+-- k is the last key met
+abbrev pub LastIs : (img : List ℕ) → Last → (k : List ℕ) → Type 0
+LastIs img l k = KeyAt img (l .at) (l .length) k
+
+-- there is a last key
+pub record Met (img : List ℕ) (l : Last) : Type 0 where
+  pub low : List ℕ
+  pub key : LastIs img l low
+
+-- what is left, and the last key
+pub record Ready (img : List ℕ) (at : Place) (left : ℕ) (l : Last) : Type 0 where
+  pub bytes : List ℕ
+  pub rest : Rest img at bytes
+  pub long : left ≡ length bytes
+  pub low : List ℕ
+  pub key : LastIs img l low
+
+pub record Ended (rule : Rule) (img s low : List ℕ) (n : ℕ) (at : Place) (left : ℕ) (l : Last) : Type 0 where
+  pub bytes : List ℕ
+  pub hi : List ℕ
+  pub run : Run rule s low n bytes hi
+  pub rest : Rest img at bytes
+  pub long : left ≡ length bytes
+  pub key : LastIs img l hi
+
+abbrev pub Ends : Rule → (img s low : List ℕ) (n : ℕ) → Entered → Type 0
+Ends rule img s low n Bad = (t hi : List ℕ) → Run rule s low n t hi → ⊥
+Ends rule img s low n (Read at left l) = Ended rule img s low n at left l
+
+-- the answer for n entries that follow the place, whatever stands there
+pub record Entering (rule : Rule) (img : List ℕ) (at : Place) (l : Last) (n : ℕ) (r : Entered) : Type 0 where
+  pub is : (s low : List ℕ) → Rest img at s → LastIs img l low → Ends rule img s low n r

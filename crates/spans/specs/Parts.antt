@@ -1,0 +1,149 @@
+-- A span that a walk finds: its pages, its bytes; and the spans after the first.
+use Prim.Native.Nat.{ℕ, _+_, _≤_}
+use mathlib.Core.Path.{_≡_}
+use mathlib.Core.List.{List, [], _∷_, map}
+use lib.ListN.{length, take}
+use lib.Dec.{T}
+use Rattle.blockfile.specs.Bytes.{pg, be32, Every, firstOf}
+use Rattle.blockfile.specs.Marks.{spanMark}
+use Rattle.blockfile.specs.Layout.{Entry, Span, reached}
+use Rattle.blockfile.specs.Fields.{LinkedSpan, AreConts}
+use Rattle.blockfile.specs.WellFormed.{span, Bears, linkSpans}
+use Rattle.walks.specs.Found.{Fresh, claims, Found, FindsAt}
+use Rattle.entries.specs.Places.{IsPage}
+use Rattle.spans.specs.declared.Rule.{Rule}
+use Rattle.spans.specs.declared.claims.Claims.{Claims}
+use Rattle.spans.specs.declared.claims.Claims.the-variants.{Held}
+use Rattle.spans.specs.declared.entry.Last.{Last}
+use Rattle.spans.specs.declared.span.Spanned.{Spanned}
+use Rattle.spans.specs.declared.span.Spanned.the-variants.{Wrong, Right}
+use Rattle.spans.specs.declared.Counted.{Counted}
+use Rattle.spans.specs.Spans.{entriesIn, Counts, whole}
+use Rattle.spans.specs.Entries.{fits, Above, lastKey, LastIs}
+
+-- ---- The pages of a span
+
+abbrev pub held : ℕ → Claims
+held m = Held m
+
+-- from page p on, n pages having been counted, stand continuation pages that can be claimed, m in all; s is the scratch then
+pub record ContsFound (img scr : List ℕ) (p n m : ℕ) (s : List ℕ) : Type 0 where
+  pub conts : List ℕ
+  pub first : p ≡ firstOf conts
+  pub are : AreConts conts (map (pg img) conts)
+  pub fresh : Fresh scr conts
+  pub long : m ≡ n + length conts
+  pub left : s ≡ claims scr conts
+
+-- page p bears a span's mark, it and its m continuation pages can be claimed; s is the scratch then
+pub record PagesFound (img scr : List ℕ) (p m : ℕ) (s : List ℕ) : Type 0 where
+  pub conts : List ℕ
+  pub marked : take 4 (pg img p) ≡ spanMark
+  pub linked : be32 (pg img p) 4 ≡ firstOf conts
+  pub are : AreConts conts (map (pg img) conts)
+  pub fresh : Fresh scr (p ∷ conts)
+  pub long : m ≡ length conts
+  pub left : s ≡ claims scr (p ∷ conts)
+
+-- ---- The bytes of a span
+
+-- page p with these continuation pages
+pub record SpanPages (img : List ℕ) (p : ℕ) (conts : List ℕ) : Type 0 where
+  pub small : length img ≤ 4194304
+  pub page : IsPage img p
+  pub marked : take 4 (pg img p) ≡ spanMark
+  pub linked : be32 (pg img p) 4 ≡ firstOf conts
+  pub are : AreConts conts (map (pg img) conts)
+  pub inside : Every (IsPage img) conts
+
+-- a span with its links
+abbrev pub withLinks : (sp : Span) (prev next z : ℕ) → LinkedSpan
+withLinks sp p n z = record { span = sp; prev = p; next = n; maxKeys = z }
+
+abbrev pub spanOn : (p : ℕ) (conts : List ℕ) → List Entry → Span
+spanOn p conts es = record { page = p; conts = conts; entries = es }
+
+-- the rules for one span whose keys are to rise from above low on
+pub record SpanOk (rule : Rule) (z : ℕ) (low : List ℕ) (sp : Span) : Type 0 where
+  pub size : length (sp .entries) ≤ z
+  pub reach : 1 + length (sp .conts) ≡ reached (sp .entries)
+  pub above : Above low (sp .entries)
+  pub fine : Every (λ e. T (fits rule (e .key) (length (e .value)))) (sp .entries)
+
+-- the image bears the span, and it keeps the rules
+pub record SpanIs (rule : Rule) (img : List ℕ) (prev z : ℕ) (low : List ℕ) (sp : Span) (next : ℕ) : Type 0 where
+  pub bears : Bears (pg img) (span (withLinks sp prev next z))
+  pub ok : SpanOk rule z low sp
+
+pub record ReadySpan (img : List ℕ) (p more : ℕ) (l : Last) : Type 0 where
+  pub conts : List ℕ
+  pub pages : SpanPages img p conts
+  pub long : more ≡ length conts
+  pub few : more ≤ 4096
+  pub low : List ℕ
+  pub key : LastIs img l low
+
+pub record SpanRight (rule : Rule) (img : List ℕ) (p : ℕ) (conts : List ℕ) (prev z : ℕ) (low : List ℕ) (n next : ℕ) (l : Last) : Type 0 where
+  pub entries : List Entry
+  pub is : SpanIs rule img prev z low (spanOn p conts entries) next
+  pub count : n ≡ length entries
+  pub key : LastIs img l (lastKey low entries)
+
+abbrev pub SpanSays : Rule → (img : List ℕ) (p : ℕ) (conts : List ℕ) (prev z : ℕ) (low : List ℕ) → Spanned → Type 0
+SpanSays rule img p conts prev z low Wrong = (es : List Entry) (next : ℕ) → SpanIs rule img prev z low (spanOn p conts es) next → ⊥
+SpanSays rule img p conts prev z low (Right n next l) = SpanRight rule img p conts prev z low n next l
+
+-- the answer for the span on page p, whatever its continuation pages and the last key met
+pub record Reading (rule : Rule) (img : List ℕ) (p prev z : ℕ) (l : Last) (r : Spanned) : Type 0 where
+  pub is : (conts low : List ℕ) → SpanPages img p conts → LastIs img l low → SpanSays rule img p conts prev z low r
+
+-- ---- A span: its pages and its bytes
+
+pub record SpanFound (rule : Rule) (img scr : List ℕ) (p prev z : ℕ) (low : List ℕ) (sp : Span) (next : ℕ) (s : List ℕ) : Type 0 where
+  pub named : sp .page ≡ p
+  pub ok : SpanOk rule z low sp
+  pub found : Found img scr (span (withLinks sp prev next z) ∷ []) s
+
+-- the span that an answer tells
+pub record Told (rule : Rule) (img scr : List ℕ) (p prev z : ℕ) (low : List ℕ) (n next : ℕ) (l : Last) (s : List ℕ) : Type 0 where
+  pub sp : Span
+  pub found : SpanFound rule img scr p prev z low sp next s
+  pub count : n ≡ length (sp .entries)
+  pub key : LastIs img l (lastKey low (sp .entries))
+
+-- the answer that a span has
+pub record Answered (img low : List ℕ) (sp : Span) (next : ℕ) (t : List ℕ) (r : Spanned) (s : List ℕ) : Type 0 where
+  pub last : Last
+  pub is : r ≡ Right (length (sp .entries)) next last
+  pub left : s ≡ t
+  pub key : LastIs img last (lastKey low (sp .entries))
+
+-- the answer is right exactly where there is such a span
+pub record Verified (rule : Rule) (img scr : List ℕ) (p prev z : ℕ) (low : List ℕ) (r : Spanned) (s : List ℕ) : Type 0 where
+  pub sound : (n next : ℕ) (l : Last) → r ≡ Right n next l → Told rule img scr p prev z low n next l s
+  pub complete : (sp : Span) (next : ℕ) (t : List ℕ) → SpanFound rule img scr p prev z low sp next t → Answered img low sp next t r s
+
+pub record VerifiedAll (rule : Rule) (img scr : List ℕ) (p prev z : ℕ) (l : Last) (r : Spanned) (s : List ℕ) : Type 0 where
+  pub is : (low : List ℕ) → LastIs img l low → Verified rule img scr p prev z low r s
+
+-- ---- Spans one after another
+
+-- from page p on stand these spans; the one before is on page prev, and its last key is low
+pub record ChainFound (rule : Rule) (img scr : List ℕ) (z p prev : ℕ) (low : List ℕ) (ss : List Span) (s : List ℕ) : Type 0 where
+  pub named : firstOf (map (λ x. x .page) ss) ≡ p
+  pub sizes : Every (λ x. length (x .entries) ≤ z) ss
+  pub reach : Every (λ x. 1 + length (x .conts) ≡ reached (x .entries)) ss
+  pub above : Above low (entriesIn ss)
+  pub fine : Every (λ e. T (fits rule (e .key) (length (e .value)))) (entriesIn ss)
+  pub found : Found img scr (map span (linkSpans z prev ss)) s
+
+-- some keys and spans having been counted, the other spans of a table follow, none of them empty
+pub record RestFound (rule : Rule) (img scr : List ℕ) (z p prev : ℕ) (low : List ℕ) (keys spans : ℕ) (a : Counts) (s : List ℕ) : Type 0 where
+  pub others : List Span
+  pub chain : ChainFound rule img scr z p prev low others s
+  pub filled : Every (λ x. 1 ≤ length (x .entries)) others
+  pub keysAre : a .keys ≡ keys + length (entriesIn others)
+  pub spansAre : a .spans ≡ spans + length others
+
+pub record RestCounted (rule : Rule) (img scr : List ℕ) (z p prev : ℕ) (l : Last) (keys : ℕ) (r : Counted) (s : List ℕ) : Type 0 where
+  pub is : (low : List ℕ) → LastIs img l low → FindsAt whole (RestFound rule img scr z p prev low keys 1) r s

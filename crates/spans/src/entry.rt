@@ -1,0 +1,108 @@
+// The entries of a span: lengths that fit, keys that rise, keys and values as the table's rule has them.
+ghost use Prim.Native.Nat.{_≤_};
+ghost use Rattle.entries.specs.Keys.{Key};
+ghost use Rattle.spans.specs.Entries.{Allowed, Ready, Entering};
+use crate::Rule;
+use entries::key::Order;
+use entries::key::compare_keys;
+use entries::key::printable;
+use entries::place::Place;
+use entries::place::forward;
+use entries::place::gap;
+use entries::place::lengths;
+
+// The last key met: its place and its length, 0 where there is none.
+pub struct Last {
+    pub at: Place,
+    pub length: usize,
+}
+
+// Entries that were read: refused, or the place after them, the bytes left from there on, and the last key.
+pub enum Entered {
+    Bad,
+    Read(Place, usize, Last),
+}
+
+// Whether a key may stand in the table, with a value of that length.
+fn allowed(image: &[u8], at: Place, key: usize, value: usize, rule: Rule) -> bool
+    requires { ⌜ Key (now image) at key × (1 ≤ key) × (key ≤ 65535) × (value ≤ 65535) ⌝ }
+    ensures { λ r. ⌜ Allowed rule (now (image .entry)) at key value r ⌝ }
+{
+    match rule {
+        Rule::Keys => true,
+        Rule::Names => {
+            if value != 4 {
+                return false;
+            }
+            if 255 < key {
+                return false;
+            }
+            printable(image, at, key)
+        }
+    }
+}
+
+// Reads the entry that follows; `left` bytes are left up to the end of the span's pages.
+fn verify_entry(image: &[u8], at: Place, left: usize, last: Last, rule: Rule) -> Entered
+    requires { ⌜ Ready (now image) at left last ⌝ }
+    ensures { λ r. ⌜ Entering rule (now (image .entry)) at last 1 r ⌝ }
+{
+    let offset = at.offset;
+    let skipped = gap(offset, 4);
+    if left < skipped + 4 {
+        return Entered::Bad;
+    }
+    let sizes = lengths(image, at);
+    let start = sizes.after;
+    let key = sizes.key;
+    let value = sizes.value;
+    let both = key + value;
+    if left - skipped - 4 < both {
+        return Entered::Bad;
+    }
+    let before = last.at;
+    let before_length = last.length;
+    let Order::Less = compare_keys(image, before, before_length, start, key) else {
+        return Entered::Bad;
+    };
+    if !allowed(image, start, key, value, rule) {
+        return Entered::Bad;
+    }
+    let after = forward(image, start, both);
+    Entered::Read(
+        after,
+        left - skipped - 4 - both,
+        Last {
+            at: start,
+            length: key,
+        },
+    )
+}
+
+// Reads `size` entries.
+pub fn verify_entries(
+    image: &[u8],
+    at: Place,
+    left: usize,
+    size: usize,
+    last: Last,
+    rule: Rule,
+) -> Entered
+    requires { ⌜ Ready (now image) at left last ⌝ }
+    ensures { λ r. ⌜ Entering rule (now (image .entry)) at last size r ⌝ }
+{
+    let mut here = at;
+    let mut rest = left;
+    let mut key = last;
+    let mut i = 0;
+    while i < size {
+        let Entered::Read(p, l, k) = verify_entry(image, here, rest, key, rule) else {
+            return Entered::Bad;
+        };
+        here = p;
+        rest = l;
+        key = k;
+        i += 1;
+    }
+    Entered::Read(here, rest, key)
+}

@@ -1,0 +1,80 @@
+// One span: its pages, its fields, its entries.
+ghost use Rattle.pages.specs.Claims.{Lent};
+ghost use Rattle.spans.specs.Entries.{Met};
+ghost use Rattle.spans.specs.Parts.{ReadySpan, Reading, VerifiedAll};
+use crate::Rule;
+use crate::claims::Claims;
+use crate::claims::claim_span;
+use crate::entry::Entered;
+use crate::entry::Last;
+use crate::entry::verify_entries;
+use entries::place::Place;
+use pages::read::get16;
+use pages::read::get32;
+
+// The answer for a span: wrong, or right with the number of its entries, the next span's page and the last key met.
+pub enum Spanned {
+    Wrong,
+    Right(usize, usize, Last),
+}
+
+// Reads the fields and the entries of the span on `page`, which has `more` continuation pages. No page may be left over: fewer
+// bytes than a page holds are left after the entries.
+fn read_span(
+    image: &[u8],
+    page: usize,
+    more: usize,
+    previous: usize,
+    most: usize,
+    last: Last,
+    rule: Rule,
+) -> Spanned
+    requires { ⌜ ReadySpan (now image) page more last ⌝ }
+    ensures { λ r. ⌜ Reading rule (now (image .entry)) page previous most last r ⌝ }
+{
+    if get32(image, page, 8) != previous {
+        return Spanned::Wrong;
+    }
+    if get16(image, page, 16) != most {
+        return Spanned::Wrong;
+    }
+    let size = get16(image, page, 18);
+    if most < size {
+        return Spanned::Wrong;
+    }
+    let start = Place { page, offset: 20 };
+    let Entered::Read(_, left, key) = verify_entries(
+        image,
+        start,
+        1004 + 1016 * more,
+        size,
+        last,
+        rule,
+    ) else {
+        return Spanned::Wrong;
+    };
+    if 1016 <= left {
+        return Spanned::Wrong;
+    }
+    let next = get32(image, page, 12);
+    Spanned::Right(size, next, key)
+}
+
+// Claims and reads the span on `page`; `previous` is the page of the span before it, or 0, and `last` the last key met.
+pub fn verify_span(
+    image: &[u8],
+    scratch: &mut [u8],
+    page: usize,
+    previous: usize,
+    most: usize,
+    last: Last,
+    rule: Rule,
+) -> Spanned
+    requires { ⌜ Lent (now image) (now scratch) × Met (now image) last ⌝ }
+    ensures { λ r. ⌜ VerifiedAll rule (now (image .entry)) (now (scratch .entry)) page previous most last r (now (scratch .exit)) ⌝ }
+{
+    let Claims::Held(more) = claim_span(image, scratch, page) else {
+        return Spanned::Wrong;
+    };
+    read_span(image, page, more, previous, most, last, rule)
+}
