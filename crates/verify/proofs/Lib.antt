@@ -1,2 +1,4 @@
 pub mod Frees
 pub mod Supers
+pub mod Tables
+pub mod Images

@@ -1,3 +1,5 @@
 // Is an image well-formed: one module for each kind of thing.
 pub mod free;
+pub mod image;
 pub mod superblock;
+pub mod table;

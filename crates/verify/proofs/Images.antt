@@ -1,0 +1,376 @@
+-- The image in four stages: superblock, metaindex, named tables, free list. What is to be found from a stage on is what is to be
+-- found from the start; at the end every page is claimed exactly if each is owned once.
+use Prim.Native.Nat.{ℕ, zero, suc, _+_, _*_, _≤_}
+use native.Mathlib.Omega.{arith}
+use mathlib.Core.Path.{_≡_, refl, ap, sym, _∙_, subst}
+use mathlib.Core.Bool.{Bool, true, cond}
+use mathlib.Core.List.{List, [], _∷_, _++_, map}
+use lib.ListN.{length, replicate, length-map, length-replicate}
+use lib.Dec.{T, eqb}
+use Rattle.blockfile.specs.declared.Counts.{Counts}
+use Rattle.blockfile.specs.Bytes.{pg, word32, Every, gather}
+use Rattle.blockfile.specs.Layout.{Keyed, Entry, Table, Block, Layout, entriesOf, freeCount}
+use Rattle.blockfile.specs.Order.{Within, within, nameRule, keyRule}
+use Rattle.blockfile.specs.WellFormed.{Piece, superblock, pagesOf, TableOk, tablePieces, freePieces, firstBlock, pieces, WellFormed}
+use Rattle.pages.specs.Claims.{full}
+use Rattle.walks.specs.declared.Walked.{Walked}
+use Rattle.walks.specs.declared.Walked.the-variants.{Refused, Done}
+use Rattle.walks.specs.Found.{claims, Found, FindsAt}
+use Rattle.walks.proofs.Founds.{SameAt, done-injective, refused-never, found-join, found-first, found-second}
+use Rattle.walks.proofs.Once.{claimed-once, once-claimed}
+use Rattle.verify.specs.declared.superblock.Superblock.{Superblock}
+use Rattle.verify.specs.declared.superblock.Started.{Started}
+use Rattle.verify.specs.declared.superblock.Started.the-variants.{Begun, Refused as Unstarted}
+use Rattle.verify.specs.declared.image.Verdict.{Verdict}
+use Rattle.verify.specs.declared.image.Verdict.the-variants.{Bad, Good}
+use Rattle.verify.specs.Free.{FreeFound}
+use Rattle.verify.specs.Superblock.{SuperFound}
+use Rattle.verify.specs.Tables.{TableFound, listing, keysOf, TablesFound}
+use Rattle.verify.specs.Image.{countsOf, Judged}
+
+-- values in the metaindex are four bytes long
+abbrev pub four : ℕ → Bool
+four n = eqb n 4
+
+abbrev tablesPieces : List (Keyed Table) → List Piece
+tablesPieces ns = gather (λ x. tablePieces (x .value)) ns
+
+abbrev counted : (p tables keys free : ℕ) → Counts
+counted p t k f = record { pages = p; tables = t; keys = k; free = f }
+
+-- ---- What is to be found from each stage on. c are the counts and out the scratch at the end
+
+-- from the start: all of the layout L
+pub record Whole (img scr : List ℕ) (c : Counts) (out : List ℕ) : Type 0 where
+  pub layout : Layout
+  pub pages : layout .pages ≡ length scr
+  pub spanSize : Within 2 128 (layout .spanSize)
+  pub metaPage : layout .meta .root ≡ 2
+  pub metaOk : TableOk nameRule (layout .meta)
+  pub metaEntries : entriesOf (layout .meta) ≡ map listing (layout .tables)
+  pub tablesOk : Every (λ x. TableOk (keyRule (x .key)) (x .value)) (layout .tables)
+  pub blocksOk : Every (λ b. length (b .listed) ≤ 252) (layout .free)
+  pub found : Found img scr (pieces layout) out
+  pub counts : c ≡ countsOf layout
+
+-- after the superblock
+pub record Tabled (img : List ℕ) (p first : ℕ) (scr : List ℕ) (c : Counts) (out : List ℕ) : Type 0 where
+  pub meta : Table
+  pub tables : List (Keyed Table)
+  pub free : List Block
+  pub metaPage : meta .root ≡ 2
+  pub metaOk : TableOk nameRule meta
+  pub metaEntries : entriesOf meta ≡ map listing tables
+  pub tablesOk : Every (λ x. TableOk (keyRule (x .key)) (x .value)) tables
+  pub start : first ≡ firstBlock free
+  pub blocksOk : Every (λ b. length (b .listed) ≤ 252) free
+  pub found : Found img scr (tablePieces meta ++ (tablesPieces tables ++ freePieces free)) out
+  pub counts : c ≡ counted p (length tables) (keysOf tables) (freeCount free)
+
+-- the metaindex that was found between two states of the scratch, with m names
+abbrev pub MetaFound : (img scr : List ℕ) (m : ℕ) (mid : List ℕ) → Type 0
+MetaFound img scr m mid = TableFound nameRule four img scr 2 m mid
+
+-- after the metaindex
+pub record Named (img : List ℕ) (p first : ℕ) (scr : List ℕ) (m : ℕ) (mid : List ℕ) (c : Counts) (out : List ℕ) : Type 0 where
+  pub meta : MetaFound img scr m mid
+  pub tables : List (Keyed Table)
+  pub free : List Block
+  pub metaEntries : entriesOf (meta .table) ≡ map listing tables
+  pub tablesOk : Every (λ x. TableOk (keyRule (x .key)) (x .value)) tables
+  pub start : first ≡ firstBlock free
+  pub blocksOk : Every (λ b. length (b .listed) ≤ 252) free
+  pub found : Found img mid (tablesPieces tables ++ freePieces free) out
+  pub counts : c ≡ counted p m (keysOf tables) (freeCount free)
+
+-- after the named tables
+pub record Listed (img : List ℕ) (p first : ℕ) (scr : List ℕ) (m : ℕ) (mid : List ℕ) (k : ℕ) (late : List ℕ) (c : Counts) (out : List ℕ) : Type 0 where
+  pub meta : MetaFound img scr m mid
+  pub tables : TablesFound img mid (entriesOf (meta .table)) 0 k late
+  pub free : List Block
+  pub start : first ≡ firstBlock free
+  pub blocksOk : Every (λ b. length (b .listed) ≤ 252) free
+  pub found : Found img late (freePieces free) out
+  pub counts : c ≡ counted p m k (freeCount free)
+
+-- ---- The superblock
+
+module _ (img scr : List ℕ) (r : Started) (s : List ℕ) (f : FindsAt Begun (SuperFound img scr) r s) where
+  super-of : (c : Counts) (out : List ℕ) (w : Whole img scr c out)
+      → SuperFound img scr (record { free = firstBlock (w .layout .free); size = w .layout .spanSize }) (claims scr (1 ∷ []))
+  super-of c out w =
+      record {
+        range = w .spanSize;
+        found = subst (λ (n : ℕ). Found img scr (superblock n (firstBlock (w .layout .free)) (w .layout .spanSize) ∷ []) (claims scr (1 ∷ []))) (w .pages)
+            (found-first img scr (superblock (w .layout .pages) (firstBlock (w .layout .free)) (w .layout .spanSize) ∷ [])
+            (tablePieces (w .layout .meta) ++ (tablesPieces (w .layout .tables) ++ freePieces (w .layout .free))) out (w .found));
+      }
+
+  pub no-super : r ≡ Unstarted → (c : Counts) (out : List ℕ) → Whole img scr c out → ⊥
+  no-super e c out w =
+      let q : Unstarted ≡ Begun (record { free = firstBlock (w .layout .free); size = w .layout .spanSize }) = sym e ∙ f .complete _ _ (super-of c out w) .0 in
+      let z : _≡_ {A = ℕ} 0 1 = cc in
+      omega arith
+
+  pub past-super : (a : Superblock) → r ≡ Begun a → SameAt (Tabled img (length scr) (a .free) s) (Whole img scr)
+  past-super a e = record { to = to; back = back }
+    where
+      to : (c : Counts) (out : List ℕ) → Tabled img (length scr) (a .free) s c out → Whole img scr c out
+      to c out t =
+          let x : SuperFound img scr a s = f .sound a e in
+          record {
+            layout = record { pages = length scr; spanSize = a .size; meta = t .meta; tables = t .tables; free = t .free };
+            pages = refl;
+            spanSize = x .range;
+            metaPage = t .metaPage;
+            metaOk = t .metaOk;
+            metaEntries = t .metaEntries;
+            tablesOk = t .tablesOk;
+            blocksOk = t .blocksOk;
+            found = found-join img scr (superblock (length scr) (firstBlock (t .free)) (a .size) ∷ []) (tablePieces (t .meta) ++ (tablesPieces (t .tables) ++ freePieces (t .free))) s out
+                (subst (λ (n : ℕ). Found img scr (superblock (length scr) n (a .size) ∷ []) s) (t .start) (x .found)) (t .found);
+            counts = t .counts;
+          }
+
+      back : (c : Counts) (out : List ℕ) → Whole img scr c out → Tabled img (length scr) (a .free) s c out
+      back c out w =
+          let d = f .complete _ _ (super-of c out w) in
+          let q : Begun a ≡ Begun (record { free = firstBlock (w .layout .free); size = w .layout .spanSize }) = sym e ∙ d .0 in
+          let i : a ≡ record { free = firstBlock (w .layout .free); size = w .layout .spanSize } = cc in
+          record {
+            meta = w .layout .meta;
+            tables = w .layout .tables;
+            free = w .layout .free;
+            metaPage = w .metaPage;
+            metaOk = w .metaOk;
+            metaEntries = w .metaEntries;
+            tablesOk = w .tablesOk;
+            start = ap (λ (x : Superblock). x .free) i;
+            blocksOk = w .blocksOk;
+            found = subst (λ (x : List ℕ). Found img x (tablePieces (w .layout .meta) ++ (tablesPieces (w .layout .tables) ++ freePieces (w .layout .free))) out) (sym (d .1))
+                (found-second img scr (superblock (w .layout .pages) (firstBlock (w .layout .free)) (w .layout .spanSize) ∷ [])
+                (tablePieces (w .layout .meta) ++ (tablesPieces (w .layout .tables) ++ freePieces (w .layout .free))) out (w .found));
+            counts = w .counts ∙ ap (λ (n : ℕ). counted n (length (w .layout .tables)) (keysOf (w .layout .tables)) (freeCount (w .layout .free))) (w .pages);
+          }
+
+-- ---- The metaindex
+
+four-all : (ns : List (Keyed Table)) → Every (λ (e : Entry). T (four (length (e .value)))) (map listing ns)
+unfolding word32
+four-all [] = tt
+four-all (n ∷ ns) = (tt, four-all ns)
+
+module _ (img : List ℕ) (p first : ℕ) (scr : List ℕ) (r : Walked) (s : List ℕ) (f : FindsAt Done (TableFound nameRule four img scr 2) r s) where
+  meta-of : (c : Counts) (out : List ℕ) (t : Tabled img p first scr c out) → MetaFound img scr (length (entriesOf (t .meta))) (claims scr (gather pagesOf (tablePieces (t .meta))))
+  meta-of c out t =
+      record {
+        table = t .meta;
+        named = t .metaPage;
+        ok = t .metaOk;
+        sizes = subst (Every (λ (e : Entry). T (four (length (e .value))))) (sym (t .metaEntries)) (four-all (t .tables));
+        found = found-first img scr (tablePieces (t .meta)) (tablesPieces (t .tables) ++ freePieces (t .free)) out (t .found);
+        keys = refl;
+      }
+
+  pub no-meta : r ≡ Refused → (c : Counts) (out : List ℕ) → Tabled img p first scr c out → ⊥
+  no-meta e c out t = refused-never _ (sym e ∙ f .complete _ _ (meta-of c out t) .0)
+
+  names : (c : Counts) (out : List ℕ) (t : Tabled img p first scr c out) → length (entriesOf (t .meta)) ≡ length (t .tables)
+  names c out t = ap length (t .metaEntries) ∙ length-map (t .tables) listing
+
+  pub past-meta : (m : ℕ) → r ≡ Done m → SameAt (Named img p first scr m s) (Tabled img p first scr)
+  unfolding meta-of
+  past-meta m e = record { to = to; back = back }
+    where
+      to : (c : Counts) (out : List ℕ) → Named img p first scr m s c out → Tabled img p first scr c out
+      to c out n =
+          record {
+            meta = n .meta .table;
+            tables = n .tables;
+            free = n .free;
+            metaPage = n .meta .named;
+            metaOk = n .meta .ok;
+            metaEntries = n .metaEntries;
+            tablesOk = n .tablesOk;
+            start = n .start;
+            blocksOk = n .blocksOk;
+            found = found-join img scr (tablePieces (n .meta .table)) (tablesPieces (n .tables) ++ freePieces (n .free)) s out (n .meta .found) (n .found);
+            counts = n .counts ∙ ap (λ (x : ℕ). counted p x (keysOf (n .tables)) (freeCount (n .free))) (n .meta .keys ∙ ap length (n .metaEntries) ∙ length-map (n .tables) listing);
+          }
+
+      back : (c : Counts) (out : List ℕ) → Tabled img p first scr c out → Named img p first scr m s c out
+      back c out t =
+          let d = f .complete _ _ (meta-of c out t) in
+          let i : m ≡ length (entriesOf (t .meta)) = done-injective m _ (sym e ∙ d .0) in
+          record {
+            meta = record {
+              table = t .meta;
+              named = t .metaPage;
+              ok = t .metaOk;
+              sizes = meta-of c out t .sizes;
+              found = subst (Found img scr (tablePieces (t .meta))) (sym (d .1)) (meta-of c out t .found);
+              keys = i;
+            };
+            tables = t .tables;
+            free = t .free;
+            metaEntries = t .metaEntries;
+            tablesOk = t .tablesOk;
+            start = t .start;
+            blocksOk = t .blocksOk;
+            found = subst (λ (x : List ℕ). Found img x (tablesPieces (t .tables) ++ freePieces (t .free)) out) (sym (d .1))
+                (found-second img scr (tablePieces (t .meta)) (tablesPieces (t .tables) ++ freePieces (t .free)) out (t .found));
+            counts = t .counts ∙ ap (λ (x : ℕ). counted p x (keysOf (t .tables)) (freeCount (t .free))) (sym (names c out t) ∙ sym i);
+          }
+
+-- ---- The named tables
+
+-- the walk over the tables that a metaindex names answers r and leaves the scratch s, whatever metaindex is read there
+module _ (img : List ℕ) (p first : ℕ) (scr : List ℕ) (m : ℕ) (mid : List ℕ) (r : Walked) (s : List ℕ)
+    (f : (x : MetaFound img scr m mid) → FindsAt Done (TablesFound img mid (entriesOf (x .table)) 0) r s) where
+  tables-of : (c : Counts) (out : List ℕ) (n : Named img p first scr m mid c out)
+      → TablesFound img mid (entriesOf (n .meta .table)) 0 (keysOf (n .tables)) (claims mid (gather pagesOf (tablesPieces (n .tables))))
+  tables-of c out n =
+      record {
+        tables = n .tables;
+        named = n .metaEntries;
+        ok = n .tablesOk;
+        found = found-first img mid (tablesPieces (n .tables)) (freePieces (n .free)) out (n .found);
+        keys = omega arith;
+      }
+
+  pub no-tables : r ≡ Refused → (c : Counts) (out : List ℕ) → Named img p first scr m mid c out → ⊥
+  no-tables e c out n = refused-never _ (sym e ∙ f (n .meta) .complete _ _ (tables-of c out n) .0)
+
+  pub past-tables : (k : ℕ) → r ≡ Done k → SameAt (Listed img p first scr m mid k s) (Named img p first scr m mid)
+  unfolding tables-of
+  past-tables k e = record { to = to; back = back }
+    where
+      to : (c : Counts) (out : List ℕ) → Listed img p first scr m mid k s c out → Named img p first scr m mid c out
+      to c out l =
+          record {
+            meta = l .meta;
+            tables = l .tables .tables;
+            free = l .free;
+            metaEntries = l .tables .named;
+            tablesOk = l .tables .ok;
+            start = l .start;
+            blocksOk = l .blocksOk;
+            found = found-join img mid (tablesPieces (l .tables .tables)) (freePieces (l .free)) s out (l .tables .found) (l .found);
+            counts = l .counts ∙ ap (λ (x : ℕ). counted p m x (freeCount (l .free))) (let q : k ≡ keysOf (l .tables .tables) = omega (arith, l .tables .keys) in q);
+          }
+
+      back : (c : Counts) (out : List ℕ) → Named img p first scr m mid c out → Listed img p first scr m mid k s c out
+      back c out n =
+          let d = f (n .meta) .complete _ _ (tables-of c out n) in
+          let i : k ≡ keysOf (n .tables) = done-injective k _ (sym e ∙ d .0) in
+          record {
+            meta = n .meta;
+            tables = record {
+              tables = n .tables;
+              named = n .metaEntries;
+              ok = n .tablesOk;
+              found = subst (Found img mid (tablesPieces (n .tables))) (sym (d .1)) (tables-of c out n .found);
+              keys = omega arith;
+            };
+            free = n .free;
+            start = n .start;
+            blocksOk = n .blocksOk;
+            found = subst (λ (x : List ℕ). Found img x (freePieces (n .free)) out) (sym (d .1)) (found-second img mid (tablesPieces (n .tables)) (freePieces (n .free)) out (n .found));
+            counts = n .counts ∙ ap (λ (x : ℕ). counted p m x (freeCount (n .free))) (sym i);
+          }
+
+-- ---- The free list
+
+module _ (img : List ℕ) (p first : ℕ) (scr : List ℕ) (m : ℕ) (mid : List ℕ) (k : ℕ) (late : List ℕ) (r : Walked) (s : List ℕ)
+    (f : FindsAt Done (FreeFound img late first 0) r s) where
+  free-of : (c : Counts) (out : List ℕ) (l : Listed img p first scr m mid k late c out) → FreeFound img late first 0 (freeCount (l .free)) out
+  free-of c out l = record { blocks = l .free; first = l .start; few = l .blocksOk; found = l .found; total = omega arith }
+
+  pub no-free : r ≡ Refused → (c : Counts) (out : List ℕ) → Listed img p first scr m mid k late c out → ⊥
+  no-free e c out l = refused-never _ (sym e ∙ f .complete _ _ (free-of c out l) .0)
+
+  -- what is found then, and nothing else
+  pub free-only : (n : ℕ) → r ≡ Done n → (c : Counts) (out : List ℕ) → Listed img p first scr m mid k late c out → (c ≡ counted p m k n) × (out ≡ s)
+  free-only n e c out l =
+      let d = f .complete _ _ (free-of c out l) in
+      (l .counts ∙ ap (counted p m k) (sym (done-injective n _ (sym e ∙ d .0))), sym (d .1))
+
+  pub free-there : (n : ℕ) → r ≡ Done n → (x : MetaFound img scr m mid) → TablesFound img mid (entriesOf (x .table)) 0 k late → Listed img p first scr m mid k late (counted p m k n) s
+  free-there n e x t =
+      let g : FreeFound img late first 0 n s = f .sound n e in
+      record {
+        meta = x;
+        tables = t;
+        free = g .blocks;
+        start = g .first;
+        blocksOk = g .few;
+        found = g .found;
+        counts = ap (counted p m k) (let q : n ≡ freeCount (g .blocks) = omega (arith, g .total) in q);
+      }
+
+-- ---- The verdict. The scratch is zero at the start
+
+module _ (img : List ℕ) (p : ℕ) (size : length img ≡ 1024 * p) (range : Within 4 4096 p) where
+  abbrev blank : List ℕ
+  blank = replicate p 0
+
+  -- with every page claimed, what is found from the start is the layout of a well-formed image
+  well : (c : Counts) (out : List ℕ) (w : Whole img blank c out) → full out ≡ true → WellFormed img (w .layout)
+  well c out w e =
+      let q : w .layout .pages ≡ p = w .pages ∙ length-replicate p 0 in
+      record {
+        pages = subst (Within 4 4096) (sym q) range;
+        size = size ∙ ap (λ (n : ℕ). 1024 * n) (sym q);
+        spanSize = w .spanSize;
+        metaPage = w .metaPage;
+        metaOk = w .metaOk;
+        metaEntries = w .metaEntries;
+        tablesOk = w .tablesOk;
+        blocksOk = w .blocksOk;
+        bears = w .found .bears;
+        once = λ n. claimed-once p (gather pagesOf (pieces (w .layout))) (w .found .fresh) (subst (λ (s : List ℕ). full s ≡ true) (w .found .left) e) n ∙ ap (λ (k : ℕ). once-at k n) (sym q);
+      }
+    where
+      once-at : ℕ → ℕ → ℕ
+      once-at k n = cond (within 1 k n) 1 0
+
+  -- a well-formed image's layout is found from the start, and every page is claimed
+  whole : (L : Layout) → WellFormed img L → (out : List ℕ) × Whole img blank (countsOf L) out × (full out ≡ true)
+  whole L w =
+      let q : L .pages ≡ p = same (length img) (L .pages) p (w .size) size in
+      let o = once-claimed p (gather pagesOf (pieces L)) (λ n. w .once n ∙ ap (λ (k : ℕ). once-at k n) q) in (
+        claims blank (gather pagesOf (pieces L)),
+        record {
+          layout = L;
+          pages = q ∙ sym (length-replicate p 0);
+          spanSize = w .spanSize;
+          metaPage = w .metaPage;
+          metaOk = w .metaOk;
+          metaEntries = w .metaEntries;
+          tablesOk = w .tablesOk;
+          blocksOk = w .blocksOk;
+          found = record { bears = w .bears; fresh = o .0; left = refl };
+          counts = refl;
+        },
+        o .1,
+      )
+    where
+      same : (n a b : ℕ) → n ≡ 1024 * a → n ≡ 1024 * b → a ≡ b
+      same n a b e f = omega arith
+
+      once-at : ℕ → ℕ → ℕ
+      once-at k n = cond (within 1 k n) 1 0
+
+  pub verdict-bad : ((c : Counts) (out : List ℕ) → Whole img blank c out → full out ≡ true → ⊥) → Judged img Bad
+  verdict-bad n =
+      record {
+        sound = λ c e. absurd (let z : _≡_ {A = ℕ} 0 1 = cc in omega arith);
+        complete = λ L w. let x = whole L w in absurd (n (countsOf L) (x .0) (x .1) (x .2));
+      }
+
+  pub verdict-good : (c : Counts) (out : List ℕ) → Whole img blank c out → full out ≡ true → ((d : Counts) (t : List ℕ) → Whole img blank d t → d ≡ c) → Judged img (Good c)
+  verdict-good c out w e only =
+      record {
+        sound = λ d q. let i : c ≡ d = cc in (w .layout, well c out w e, sym i ∙ w .counts);
+        complete = λ L x. let y = whole L x in ap Good (sym (only (countsOf L) (y .0) (y .1)));
+      }

@@ -1,0 +1,68 @@
+-- The tables, as their walks find them.
+use Prim.Native.Nat.{ℕ, _+_}
+use mathlib.Core.Path.{_≡_}
+use mathlib.Core.Bool.{Bool}
+use mathlib.Core.List.{List, [], _∷_, _++_, map}
+use lib.ListN.{length}
+use lib.Dec.{T}
+use Rattle.blockfile.specs.Bytes.{pg, be32, word32, Every, gather}
+use Rattle.blockfile.specs.Layout.{Keyed, Entry, Table, columns, towersOf, entriesOf}
+use Rattle.blockfile.specs.Order.{KeyRule, keyRule}
+use Rattle.blockfile.specs.WellFormed.{span, tower, spansIn, towersIn, TableOk, tablePieces}
+use Rattle.walks.specs.Found.{Found}
+use Rattle.verify.specs.declared.table.Columned.{Columned}
+use Rattle.verify.specs.declared.table.Columned.the-variants.{Whole}
+
+-- the table on the skip-list page `root`, with m keys; the lengths of its values pass the test
+pub record TableFound (r : KeyRule) (sized : ℕ → Bool) (img scr : List ℕ) (root m : ℕ) (out : List ℕ) : Type 0 where
+  pub table : Table
+  pub named : table .root ≡ root
+  pub ok : TableOk r table
+  pub sizes : Every (λ e. T (sized (length (e .value)))) (entriesOf table)
+  pub found : Found img scr (tablePieces table) out
+  pub keys : m ≡ length (entriesOf table)
+
+-- a table's entry in the metaindex: its name, and its skip-list page in four bytes
+abbrev pub listing : Keyed Table → Entry
+listing n = record { key = n .key; value = word32 (n .value .root) }
+
+abbrev pub keysOf : List (Keyed Table) → ℕ
+keysOf [] = 0
+keysOf (n ∷ ns) = length (entriesOf (n .value)) + keysOf ns
+
+-- the tables that the entries of the metaindex name; with n keys before, they have m in all
+pub record TablesFound (img scr : List ℕ) (es : List Entry) (n m : ℕ) (out : List ℕ) : Type 0 where
+  pub tables : List (Keyed Table)
+  pub named : es ≡ map listing tables
+  pub ok : Every (λ x. TableOk (keyRule (x .key)) (x .value)) tables
+  pub found : Found img scr (gather (λ x. tablePieces (x .value)) tables) out
+  pub keys : m ≡ n + keysOf tables
+
+-- what the walk over a table's spans and towers counts
+pub record Tally : Type 0 where
+  pub keys : ℕ
+  pub spans : ℕ
+  pub levels : ℕ
+
+-- the spans and towers of the table on the skip-list page `root`, whose span size is z
+pub record ColumnsFound (r : KeyRule) (sized : ℕ → Bool) (img scr : List ℕ) (root z : ℕ) (a : Tally) (out : List ℕ) : Type 0 where
+  pub table : Table
+  pub named : table .root ≡ root
+  pub size : table .spanSize ≡ z
+  pub first : be32 (pg img root) 8 ≡ table .first .page
+  pub level : be32 (pg img root) 12 ≡ table .head .page
+  pub ok : TableOk r table
+  pub sizes : Every (λ e. T (sized (length (e .value)))) (entriesOf table)
+  pub found : Found img scr (map span (spansIn table) ++ map tower (towersIn table)) out
+  pub keysAre : a .keys ≡ length (entriesOf table)
+  pub spansAre : a .spans ≡ length (columns table)
+  pub levelsAre : a .levels ≡ length (towersOf (columns table))
+
+abbrev pub columned : Tally → Columned
+columned a = Whole (a .keys) (a .spans) (a .levels)
+
+-- the skip-list page b has these counts
+pub record CountsAre (b : List ℕ) (keys spans levels : ℕ) : Type 0 where
+  pub sizeIs : be32 b 16 ≡ keys
+  pub spansIs : be32 b 20 ≡ spans
+  pub levelsIs : be32 b 24 ≡ levels
