@@ -1,15 +1,15 @@
 -- The walk over the towers of the spans after the first.
-use Prim.Native.Nat.{ℕ, zero, suc, _+_, _*_, _≤_, _<_}
+use Prim.Native.Nat.{ℕ, suc, _+_, _*_, _≤_, _<_}
 use native.Mathlib.Omega.{arith}
 use native.Mathlib.Decide.{decLt}
 use mathlib.Core.Path.{_≡_, refl, ap, sym, _∙_, subst}
 use mathlib.Core.Logic.{by-cases}
 use mathlib.Core.Bool.{Bool, true, false, true≢false}
-use mathlib.Core.List.{List, [], _∷_, _++_, map}
+use mathlib.Core.List.{List, [], _∷_, map}
 use mathlib.Core.Option.{Option, none, some}
 use lib.ListN.{length, getD}
 use borrow.Author.Tests.{lt-ltb, le-ltb}
-use Rattle.blockfile.specs.Bytes.{pg, be16, be32, from}
+use Rattle.blockfile.specs.Bytes.{pg, be16, from}
 use Rattle.blockfile.specs.Marks.{towerMark}
 use Rattle.blockfile.specs.Layout.{Span, Tower, Column, spansOf, towersOf}
 use Rattle.blockfile.specs.Fields.{LinkedTower, IsTower}
@@ -175,7 +175,8 @@ module _ (img scr : List ℕ) (top : ℕ) (levels : List ℕ) (j m : ℕ) (out :
     pub placed : Placed img scr top levels p n height mid
     pub more : (levels′ : List ℕ) → Followed img n height levels levels′ → Climb img mid top (nextSpan img (spanUnder img n)) (at levels′) (j + 1) m out
 
-  first-here : (p : ℕ) (s : Span) (w : Tower) (cs : List Column) → ClimbOn img scr top p (at levels) j m out (record { span = s; tower = some w } ∷ cs) → First p (w .page)
+  first-here : (p : ℕ) (s : Span) (w : Tower) (cs : List Column)
+      → ClimbOn img scr top p (at levels) j m out (record { span = s; tower = some w } ∷ cs) → First p (w .page)
   first-here p s w cs o =
       let ts : List Tower = towersOf cs in
       let x : LinkedTower = raised (s .page) ts w in
@@ -332,7 +333,8 @@ module _ (img scr₀ : List ℕ) (head top start : ℕ) (scr levels : List ℕ) 
             falls = zeros-claimed scr n o ∙ ap (λ (t : List ℕ). suc (zeros t)) (sym (x .found .left));
           }
 
-      same-next : (out : List ℕ) → Followed img n k levels out → SameAt (Climb img s top (nextSpan img (spanUnder img n)) (at out) (count + 1)) (Climb img scr top p (at levels) count)
+      same-next : (out : List ℕ) → Followed img n k levels out
+          → SameAt (Climb img s top (nextSpan img (spanUnder img n)) (at out) (count + 1)) (Climb img scr top p (at levels) count)
       same-next out f =
           record {
             to = λ m t c. climb-to img scr top levels count m t s out p n k (b .sound k e) f c;

@@ -1,11 +1,10 @@
 -- The head, and all towers of a table.
-use Prim.Native.Nat.{ℕ, zero, suc, _+_, _*_, _≤_, _<_}
+use Prim.Native.Nat.{ℕ, suc, _+_, _*_, _≤_}
 use native.Mathlib.Omega.{arith}
 use mathlib.Core.Path.{_≡_, refl, ap, sym, _∙_, subst}
 use mathlib.Core.List.{List, [], _∷_, _++_, map, head-eq-of-cons-eq, tail-eq-of-cons-eq, nil≢cons, cons≢nil}
-use mathlib.Core.Option.{Option, none, some}
 use lib.ListN.{length, length-append}
-use Rattle.blockfile.specs.Bytes.{pg, be16, be32, Every, gather, from, firstOf}
+use Rattle.blockfile.specs.Bytes.{pg, Every, gather, firstOf}
 use Rattle.blockfile.specs.Layout.{Span, Tower, Column, spansOf, towersOf, towerIn}
 use Rattle.blockfile.specs.Order.{Within}
 use Rattle.blockfile.specs.Fields.{LinkedTower, IsTower}
@@ -15,11 +14,11 @@ use Rattle.laws.proofs.Chains.{entry-at}
 use Rattle.pages.specs.Claims.{Lent, claimed}
 use Rattle.walks.specs.declared.Walked.{Walked}
 use Rattle.walks.specs.declared.Walked.the-variants.{Refused, Done}
-use Rattle.walks.specs.Found.{Open, Fresh, claims, zeros, Found, FindsAt}
-use Rattle.walks.proofs.Founds.{SameAt, same-start, finds-none, finds-same, done-injective, refused-never, claimable-open, fresh-right, length-claims, zeros-claims, zeros-most}
+use Rattle.walks.specs.Found.{Open, Fresh, claims, Found, FindsAt}
+use Rattle.walks.proofs.Founds.{same-start, finds-none, finds-same, done-injective, refused-never, fresh-right, length-claims, zeros-claims, zeros-most}
 use Rattle.walks.proofs.Pieces.{found-claimable, found-rest, found-cons}
 use Rattle.towers.specs.Towers.{Spanned, TowersFound}
-use Rattle.towers.specs.Climb.{entryAt, nextSpan, Way, Linked, Tall, spanUnder, TowerFound, ClimbOn, Climb}
+use Rattle.towers.specs.Climb.{entryAt, nextSpan, Way, Linked, Tall, spanUnder, TowerFound, Climb}
 use Rattle.towers.proofs.Ways.{way-unique}
 use Rattle.towers.proofs.Climbs.{tower-single, raised, towerAt, tower-bears}
 
@@ -45,7 +44,8 @@ module _ (img : List ℕ) (p z : ℕ) (s : Span) (others : List Span) (sp : Span
 
   pub others-linked : (q : ℕ) → q ≡ nextSpan img p → Linked img q
   others-linked q e =
-      subst (Linked img) (sym e) (record { passed = pages others; way = others-way; few = let l : length (pages others) ≡ length others = length-pages others in omega (arith, sp .few) })
+      let l : length (pages others) ≡ length others = length-pages others in
+      subst (Linked img) (sym e) (record { passed = pages others; way = others-way; few = omega (arith, sp .few) })
 
 -- spans that were found are such spans
 span-inside : (scr : List ℕ) (n z p : ℕ) (ss : List Span) → length scr ≡ n → Fresh scr (gather pagesOf (map span (linkSpans z p ss)))
@@ -64,12 +64,12 @@ span-few z p (s ∷ ss) =
     let l : length ss ≤ length (gather pagesOf (map span (linkSpans z (s .page) ss))) = span-few z (s .page) ss in
     omega (arith, length-append (s .conts) (gather pagesOf (map span (linkSpans z (s .page) ss))))
 
-pub spans-found : (img scr out : List ℕ) (z : ℕ) (s : Span) (others : List Span) → Lent img scr → Found img scr (map span (linkSpans z 0 (s ∷ others))) out
-    → Spanned img (s .page) z s others
-spans-found img scr out z s others l f =
+pub spans-found : (img scr out : List ℕ) (p z : ℕ) (s : Span) (others : List Span) → Lent img scr → Found img scr (map span (linkSpans z 0 (s ∷ others))) out
+    → s .page ≡ p → Spanned img p z s others
+spans-found img scr out p z s others l f e =
     let ns : List ℕ = gather pagesOf (map span (linkSpans z 0 (s ∷ others))) in
     record {
-      here = refl;
+      here = e;
       bears = f .bears;
       inside = rw (l .size) (span-inside scr (length scr) z 0 (s ∷ others) refl (f .fresh));
       few = omega (arith, l .size, span-few z 0 (s ∷ others), zeros-claims scr ns (f .fresh), zeros-most scr);
@@ -133,7 +133,8 @@ module _ (img scr : List ℕ) (head p z : ℕ) (s : Span) (others : List Span) (
         towers-to m t c =
             let f : TowerFound img scr 0 252 head k u = b .sound k e in
             let w : Tower = towerAt img head in
-            let v : Moved (c .rest) others = moved (c .rest) others (way-unique img (pages (spansOf (c .rest))) (pages others) (nextSpan img p) (c .on .way) (others-way img p z s others sp)) in
+            let v : Moved (c .rest) others
+            = moved (c .rest) others (way-unique img (pages (spansOf (c .rest))) (pages others) (nextSpan img p) (c .on .way) (others-way img p z s others sp)) in
             let y : LinkedTower = raised (spanUnder img head) (towersOf (c .rest)) w in
             let ys : List Piece = map tower (linkTowers (c .rest)) in
             let g : Bears (pg img) (tower y) = tower-bears img scr head (towersOf (c .rest)) (f .can) (λ i l. c .on .expected i (omega (arith, f .height))) in
@@ -174,12 +175,15 @@ module _ (img scr : List ℕ) (head p z : ℕ) (s : Span) (others : List Span) (
                 tall = subst (λ (n : ℕ). Every (λ w′. Tall 1 n (w′ .maxHeight) (w′ .height)) ts) h
                     (every-both (λ w′. Within 1 252 (w′ .maxHeight) × (w′ .height ≤ w′ .maxHeight)) (λ w′. Within 1 (w .height) (w′ .height))
                     (λ w′ i j. record { range = i .0; most = i .1; low = j .0; high = j .1 }) ts (x .heights .1) (x .lower));
-                expected = λ i l. ap (λ (n : ℕ). entryAt img n i) (sym (x .named)) ∙ entry-at (pg img (w .page)) (λ n. nextAt n ts) (w .height) i (g .nexts) (omega arith);
+                expected = λ i l. ap (λ (n : ℕ). entryAt img n i) (sym (x .named))
+                    ∙ entry-at (pg img (w .page)) (λ n. nextAt n ts) (w .height) i (g .nexts) (omega arith);
                 found = subst (λ (r : List ℕ). Found img r ys t) left (found-rest img scr (tower y) (w .page) 2 (tower-single img y) ys t (x .found));
                 total = omega (arith, x .total);
               };
             }
 
-        pub towers-climb : (n : ℕ) → n ≡ nextSpan img p → (r : Walked) (out : List ℕ) → FindsAt Done (Climb img u k n (entryAt img head) 1) r out → TowersIs r out
+        pub towers-climb : (n : ℕ) → n ≡ nextSpan img p → (r : Walked) (out : List ℕ)
+            → FindsAt Done (Climb img u k n (entryAt img head) 1) r out → TowersIs r out
         towers-climb n n-is r out f =
-            finds-same Done r out (record { to = towers-to; back = towers-back }) (subst (λ (x : ℕ). FindsAt Done (Climb img u k x (entryAt img head) 1) r out) n-is f)
+            finds-same Done r out (record { to = towers-to; back = towers-back })
+            (subst (λ (x : ℕ). FindsAt Done (Climb img u k x (entryAt img head) 1) r out) n-is f)

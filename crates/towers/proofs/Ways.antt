@@ -1,8 +1,8 @@
 -- Spans along next links.
-use Prim.Native.Nat.{ℕ, zero, suc, _+_, _*_, _≤_, _<_}
+use Prim.Native.Nat.{ℕ, zero, suc, _*_, _≤_}
 use native.Mathlib.Omega.{arith}
 use mathlib.Core.Path.{_≡_, refl, ap, ap₂, sym, _∙_, subst}
-use mathlib.Core.Bool.{Bool, true, false, cond}
+use mathlib.Core.Bool.{true, false, cond}
 use mathlib.Core.List.{List, [], _∷_}
 use lib.ListN.{length}
 use lib.Dec.{eqb}
@@ -82,7 +82,9 @@ module _ (img : List ℕ) (start target p : ℕ) (v : Reaching img start target 
     pub reaching-here : p ≡ target → Decides (Reach img start target) true
     reaching-here e =
         let n = next-span img p (v .linked) z in
-        decides-true (v .to (record { passed = []; way = e; low = subst (λ (x : ℕ). 1 ≤ x) e (n .low); high = subst (λ (x : ℕ). 1024 * x ≤ length img) e (n .high) }))
+        let l : 1 ≤ target = subst (λ (x : ℕ). 1 ≤ x) e (n .low) in
+        let h : 1024 * target ≤ length img = subst (λ (x : ℕ). 1024 * x ≤ length img) e (n .high) in
+        decides-true (v .to (record { passed = []; way = e; low = l; high = h }))
 
     pub reaching-next : (p ≡ target → ⊥) → (m : ℕ) → m ≡ nextSpan img p → Reaching img start target m
     reaching-next ne m is =

@@ -111,7 +111,8 @@ fn place_tower(
 }
 
 // Claims the towers of the spans from `start` on, where the first `top` entries of the head lead to them; answers their
-// number and 1, for the head. Each turn claims a tower, and each span is passed once in all.
+// number and 1, for the head. Each turn claims a tower, and each span is passed once in all. With `top` 0 no tower is
+// expected, and there is none.
 fn claim_others(image: &[u8], scratch: &mut [u8], head: usize, top: usize, start: usize) -> Walked
     requires { ⌜ Lent (now image) (now scratch) × Inside (now image) head 16 (4 * top) × Linked (now image) start ⌝ }
     ensures { λ r. ⌜ FindsAt Done (Climb (now (image .entry)) (now (scratch .entry)) top start (entryAt (now (image .entry)) head) 1) r (now (scratch .exit)) ⌝ }

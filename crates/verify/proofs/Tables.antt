@@ -86,7 +86,7 @@ module _ (rule : Rule) (img scr : List ℕ) (lent : Lent img scr) (root z : ℕ)
               spanSize = z;
               start = x .first;
               others = x .others;
-              spanned = subst (λ (q : ℕ). Spanned img q z (x .first) (x .others)) (x .named ∙ sym is) (spans-found img scr s z (x .first) (x .others) lent (x .found));
+              spanned = spans-found img scr s n z (x .first) (x .others) lent (x .found) (x .named ∙ sym is);
             },
             (let q : length s ≡ length scr = ap length (x .found .left) ∙ length-claims scr (gather pagesOf (map span (linkSpans z 0 (x .first ∷ x .others)))) in
             record { size = omega (arith, lent .size); most = omega (arith, lent .most) }),
@@ -118,8 +118,7 @@ module _ (rule : Rule) (img scr : List ℕ) (lent : Lent img scr) (root z : ℕ)
         towers-at a u c =
             let x = spans-of a u c in
             g z (c .table .first) (spansOf (c .table .rest))
-            (subst (λ (q : ℕ). Spanned img q z (c .table .first) (spansOf (c .table .rest))) (x .named ∙ sym is)
-            (spans-found img scr _ z (x .first) (x .others) lent (x .found)))
+            (spans-found img scr _ n z (x .first) (x .others) lent (x .found) (x .named ∙ sym is))
 
         pub columns-no-towers : w ≡ Refused → FindsAt columned Cols Broken t
         columns-no-towers h =
@@ -131,7 +130,7 @@ module _ (rule : Rule) (img scr : List ℕ) (lent : Lent img scr) (root z : ℕ)
             let x = found in
             let y : TowersFound img s (be32 (pg img root) 12) (x .first) (x .others) m t
             = g z (x .first) (x .others)
-            (subst (λ (q : ℕ). Spanned img q z (x .first) (x .others)) (x .named ∙ sym is) (spans-found img scr s z (x .first) (x .others) lent (x .found))) .sound m h in
+            (spans-found img scr s n z (x .first) (x .others) lent (x .found) (x .named ∙ sym is)) .sound m h in
             let o : SpansOk (ruleOf rule) z (x .first) (spansOf (y .rest)) = subst (SpansOk (ruleOf rule) z (x .first)) (sym (y .stands)) (x .ok) in
             record {
               table = record { root = root; spanSize = z; first = x .first; head = y .top; rest = y .rest };

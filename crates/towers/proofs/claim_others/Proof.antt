@@ -1,5 +1,4 @@
 -- `claim_others` meets its contract. The loop's invariant is `Climbing`; the measure is the pages that are not claimed.
-use Prim.Native.Nat.{_≤_}
 use mathlib.Core.Path.{refl, _∙_}
 use native.Mathlib.Omega.{arith}
 use borrow.Author.Needs.{needs}

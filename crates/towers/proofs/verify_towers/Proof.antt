@@ -11,6 +11,21 @@ use Rattle.towers.proofs.verify_towers.Tie as tie
 returns : tie.Need-returns
 returns c = λ z s others sp. head-no _ _ _ _ z s others sp _ _ (c .before .before .before .before .claim-tower .ensures) (c .enum-told .given .1)
 
+returns-2 : tie.Need-returns-2
+returns-2 c =
+    let k = c .before .before in
+    λ z s others sp. head-off _ _ _ _ z s others sp _ _ (k .before .before .before .before .before .claim-tower .ensures) _ (k .before .top .given .1)
+    _ (c .before .get32 .ensures .is) (c .if1 .taken)
+
+returns-3 : tie.Need-returns-3
+returns-3 c =
+    let others = c .before .before in
+    let g = others .before .before in
+    let e = g .before in
+    let k = e .before .before in
+    λ z s ss sp. towers-climb _ _ _ _ z s ss sp _ _ (k .before .before .before .before .before .claim-tower .ensures) _ (k .before .top .given .1)
+    _ (e .before .get32 .ensures .is) (e .if1 .left) _ (g .get322 .ensures .is) _ _ (others .claim-others .ensures)
+
 -- the head was claimed
 opened : (c : tie.After-known-told)
     → let a = c .before .before .before .before .before .before .before .before .before .args in
@@ -22,12 +37,6 @@ opened c =
 get32-requires : tie.Need-get32-requires
 get32-requires c κs = let o = opened c in record { small = omega arith; low = omega arith; high = omega arith; fits = omega arith }
 
-returns-2 : tie.Need-returns-2
-returns-2 c =
-    let k = c .before .before in
-    λ z s others sp. head-off _ _ _ _ z s others sp _ _ (k .before .before .before .before .before .claim-tower .ensures) _ (k .before .top .given .1)
-    _ (c .before .get32 .ensures .is) (c .if1 .taken)
-
 claim-others-requires : tie.Need-claim-others-requires
 claim-others-requires c κs =
     let k = c .before .before .before .before in
@@ -37,15 +46,6 @@ claim-others-requires c κs =
       record { small = omega arith; low = omega arith; high = omega arith; fits = omega arith },
       others-linked _ _ _ _ _ (h .spanned) _ (c .before .get322 .ensures .is),
     )
-
-returns-3 : tie.Need-returns-3
-returns-3 c =
-    let others = c .before .before in
-    let g = others .before .before in
-    let e = g .before in
-    let k = e .before .before in
-    λ z s ss sp. towers-climb _ _ _ _ z s ss sp _ _ (k .before .before .before .before .before .claim-tower .ensures) _ (k .before .top .given .1)
-    _ (e .before .get32 .ensures .is) (e .if1 .left) _ (g .get322 .ensures .is) _ _ (others .claim-others .ensures)
 
 pub verify-towers-spec : {M : Type 1} → statement M
 verify-towers-spec =
