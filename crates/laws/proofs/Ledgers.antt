@@ -230,7 +230,7 @@ pub record Done (L : Layout) (op : Op) (M : Layout) : Type 0 where
   pub ledger : ledgerOf M ≡ ledgerAfter L op
 
 -- where the table is there, what is done is done on it
-on-table : (L : Layout) (n : List ℕ) (t : Table) (f : Table → Plan) → find n (L .tables) ≡ some t → onTable L n f ≡ some (f t)
+pub on-table : (L : Layout) (n : List ℕ) (t : Table) (f : Table → Plan) → find n (L .tables) ≡ some t → onTable L n f ≡ some (f t)
 unfolding onTable
 on-table L n t f e = ap (Option·map f) e
 

@@ -37,3 +37,15 @@ pub mod Encodes
 pub mod Draws
 pub mod Ledgers
 pub mod Remembers
+pub mod Spots
+pub mod Inside
+pub mod LinksWritten
+pub mod Turns
+pub mod Fitting
+pub mod RelinksFit
+pub mod Pagewise
+pub mod Rewrites
+pub mod DrawnRewrites
+pub mod Unlinks
+pub mod Creates
+pub mod Preserves

@@ -33,7 +33,7 @@ relink-writes a j h = sym (map-map linkWrite (linkAt (λ i. nextAt i (towersOf (
 -- ---- Where they are, and where they lead
 
 -- what holds of f at each of n numbers in a row
-every-from : {A : Type 0} (R : A → Type 0) (f : ℕ → A) (j n : ℕ) → ((i : ℕ) → i < j + n → R (f i)) → Every R (map f (from j n))
+pub every-from : {A : Type 0} (R : A → Type 0) (f : ℕ → A) (j n : ℕ) → ((i : ℕ) → i < j + n → R (f i)) → Every R (map f (from j n))
 every-from R f j zero h = tt
 every-from R f j (suc n) h = (h j (omega arith), every-from R f (suc j) n (λ i l. h i (omega arith)))
 

@@ -70,9 +70,9 @@ module _ (rule : Rule) (img scr : List ℕ) (lent : Lent img scr) (root z : ℕ)
     pub columns-no-spans : r ≡ NoSpans → FindsAt columned Cols Broken s
     columns-no-spans e =
         none s (λ a t c.
-          let q : NoSpans ≡ AllSpans (a .keys) (a .spans) = sym e ∙ f .complete _ _ (spans-of a t c) .0 in
-          let x : _≡_ {A = ℕ} 0 1 = cc in
-          omega arith)
+        let q : NoSpans ≡ AllSpans (a .keys) (a .spans) = sym e ∙ f .complete _ _ (spans-of a t c) .0 in
+        let x : _≡_ {A = ℕ} 0 1 = cc in
+        omega arith)
 
     module _ (keys spans : ℕ) (e : r ≡ AllSpans keys spans) where
       found : SpansFound rule img scr z (be32 (pg img root) 8) (record { keys = keys; spans = spans }) s
@@ -89,7 +89,7 @@ module _ (rule : Rule) (img scr : List ℕ) (lent : Lent img scr) (root z : ℕ)
               spanned = spans-found img scr s n z (x .first) (x .others) lent (x .found) (x .named ∙ sym is);
             },
             (let q : length s ≡ length scr = ap length (x .found .left) ∙ length-claims scr (gather pagesOf (map span (linkSpans z 0 (x .first ∷ x .others)))) in
-            record { size = omega (arith, lent .size); most = omega (arith, lent .most) }),
+                record { size = omega (arith, lent .size); most = omega (arith, lent .most) }),
           )
 
       module _ (hd : ℕ) (on : hd ≡ be32 (pg img root) 12) (w : Walked) (t : List ℕ)
@@ -208,8 +208,8 @@ module _ (rule : Rule) (img scr : List ℕ) (root : ℕ) where
     pub table-no : b ≡ false → FindsAt Done Tab Refused s
     table-no e =
         no-table s (λ m t f. true≢false
-          (sym (found-claimable img scr (skipList (skipListOf (f .table))) root 1 (root-single m t f) (map span (spansIn (f .table)) ++ map tower (towersIn (f .table))) t (f .found))
-          ∙ claim-not img scr root 1 b s c e))
+        (sym (found-claimable img scr (skipList (skipListOf (f .table))) root 1 (root-single m t f) (map span (spansIn (f .table)) ++ map tower (towersIn (f .table))) t (f .found))
+        ∙ claim-not img scr root 1 b s c e))
 
     module _ (e : b ≡ true) where
       pub table-size : (Within 2 128 (be16 (pg img root) 28) → ⊥) → FindsAt Done Tab Refused s
@@ -220,7 +220,7 @@ module _ (rule : Rule) (img scr : List ℕ) (root : ℕ) where
         -- the columns of a table that is found
         columns-of : (m : ℕ) (t : List ℕ) (f : Tab m t)
             → ColumnsFound (ruleOf rule) (sized rule) img s root z
-              (record { keys = length (entriesOf (f .table)); spans = length (columns (f .table)); levels = length (towersOf (columns (f .table))) }) t
+            (record { keys = length (entriesOf (f .table)); spans = length (columns (f .table)); levels = length (towersOf (columns (f .table))) }) t
         columns-of m t f =
             record {
               table = f .table;
@@ -240,9 +240,9 @@ module _ (rule : Rule) (img scr : List ℕ) (root : ℕ) where
         pub table-broken : r ≡ Broken → FindsAt Done Tab Refused u
         table-broken h =
             no-table u (λ m t f.
-              let q : Broken ≡ columned _ = sym h ∙ g .complete _ _ (columns-of m t f) .0 in
-              let x : _≡_ {A = ℕ} 0 1 = cc in
-              omega arith)
+            let q : Broken ≡ columned _ = sym h ∙ g .complete _ _ (columns-of m t f) .0 in
+            let x : _≡_ {A = ℕ} 0 1 = cc in
+            omega arith)
 
         module _ (keys spans levels : ℕ) (h : r ≡ Whole keys spans levels) where
           abbrev tally : Tally
@@ -258,9 +258,9 @@ module _ (rule : Rule) (img scr : List ℕ) (root : ℕ) where
           pub table-miscounted : (CountsAre (pg img root) keys spans levels → ⊥) → FindsAt Done Tab Refused u
           table-miscounted n =
               no-table u (λ m t f.
-                let x = same-tally m t f in
-                let k = on-root m t f in
-                n (record { sizeIs = k .size ∙ sym (x .0); spansIs = k .spans ∙ sym (x .1); levelsIs = k .levels ∙ sym (x .2) }))
+              let x = same-tally m t f in
+              let k = on-root m t f in
+              n (record { sizeIs = k .size ∙ sym (x .0); spansIs = k .spans ∙ sym (x .1); levelsIs = k .levels ∙ sym (x .2) }))
 
           pub table-done : CountsAre (pg img root) keys spans levels → FindsAt Done Tab (Done keys) u
           unfolding skipMark
@@ -268,15 +268,15 @@ module _ (rule : Rule) (img scr : List ℕ) (root : ℕ) where
               let d : (claimable img scr root 1 ≡ true) × (s ≡ claimed scr root) = claim-done img scr root 1 b s c e in
               let y = g .sound tally h in
               let w : IsSkipList (skipListOf (y .table)) (pg img root) =
-                record {
-                  mark = begins-take skipMark (pg img root) (claimable-open img scr root 1 (d .0) .1);
-                  first = y .first;
-                  level = y .level;
-                  size = k .sizeIs ∙ y .keysAre;
-                  spans = k .spansIs ∙ y .spansAre;
-                  levels = k .levelsIs ∙ y .levelsAre;
-                  spanSize = sym is ∙ sym (y .size);
-                } in
+              record {
+                mark = begins-take skipMark (pg img root) (claimable-open img scr root 1 (d .0) .1);
+                first = y .first;
+                level = y .level;
+                size = k .sizeIs ∙ y .keysAre;
+                spans = k .spansIs ∙ y .spansAre;
+                levels = k .levelsIs ∙ y .levelsAre;
+                spanSize = sym is ∙ sym (y .size);
+              } in
               finds-done Done (Done keys) u (same-start Tab) done-injective keys refl
               (record {
                 table = y .table;

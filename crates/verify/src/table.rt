@@ -8,7 +8,6 @@ ghost use Rattle.walks.specs.Found.{Decides, FindsAt};
 ghost use Rattle.walks.specs.declared.Walked.the-variants.{Done};
 ghost use Rattle.spans.specs.Spans.{ruleOf, sized};
 ghost use Rattle.verify.specs.Tables.{columned, CountsAre, ColumnsFound, TableFound};
-
 use pages::claim::claim;
 use pages::mark::SKIP_LIST;
 use pages::read::get16;
@@ -26,7 +25,13 @@ pub enum Columned {
 }
 
 // Claims and reads the spans and the towers of the table on `root`, whose span size is `most`.
-fn verify_columns(image: &[u8], scratch: &mut [u8], root: usize, most: usize, rule: Rule) -> Columned
+fn verify_columns(
+    image: &[u8],
+    scratch: &mut [u8],
+    root: usize,
+    most: usize,
+    rule: Rule,
+) -> Columned
     requires { ⌜ Lent (now image) (now scratch) × Inside (now image) root 0 1024 × Within 2 128 most ⌝ }
     ensures { λ r. ⌜ FindsAt columned (ColumnsFound (ruleOf rule) (sized rule) (now (image .entry)) (now (scratch .entry)) root most) r (now (scratch .exit)) ⌝ }
 {
@@ -73,7 +78,8 @@ pub fn verify_table(image: &[u8], scratch: &mut [u8], root: usize, rule: Rule) -
     if 128 < most {
         return Walked::Refused;
     }
-    let Columned::Whole(keys, spans, levels) = verify_columns(image, scratch, root, most, rule) else {
+    let Columned::Whole(keys, spans, levels) = verify_columns(image, scratch, root, most, rule)
+    else {
         return Walked::Refused;
     };
     if are_counts(image, root, keys, spans, levels) {
