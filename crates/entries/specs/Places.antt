@@ -3,7 +3,7 @@ use Prim.Native.Nat.{ℕ, _+_, _*_, _-_, _≤_, _<_}
 use mathlib.Core.Path.{_≡_}
 use mathlib.Core.Bool.{cond}
 use mathlib.Core.List.{List, _++_, map}
-use lib.ListN.{length, drop, getD}
+use lib.ListN.{length, take, drop, getD}
 use lib.Dec.{ltb}
 use Rattle.blockfile.specs.Bytes.{pg, be16, be32, Every, gather, firstOf}
 use Rattle.blockfile.specs.Fields.{AreConts}
@@ -66,3 +66,11 @@ pub record Measured (img : List ℕ) (at : Place) (g : Sizes) : Type 0 where
   pub moved : Moved img at (gap (at .offset) 4 + 4) (g .after)
   pub keyBelow : g .key < 65536
   pub valueBelow : g .value < 65536
+
+-- the four bytes at the place as a number
+pub record Numbered (img : List ℕ) (at : Place) (r : ℕ) : Type 0 where
+  pub is : (s : List ℕ) → Rest img at s → r ≡ be32 s 0
+
+-- the n bytes from the place on are copied over the start of a buffer; its other bytes are kept
+pub record Copied (img : List ℕ) (at : Place) (n : ℕ) (old new : List ℕ) : Type 0 where
+  pub is : (s : List ℕ) → Rest img at s → new ≡ take n s ++ drop n old
