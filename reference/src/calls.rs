@@ -24,7 +24,7 @@ pub struct Answer {
 
 /// The refusals.
 #[derive(Clone, Copy, Debug, PartialEq, Eq)]
-enum Refusal {
+pub(crate) enum Refusal {
     ImageLength,
     ScratchShort,
     NotWellFormed,

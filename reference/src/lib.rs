@@ -1,9 +1,13 @@
 //! The independent second program of the calibration store: document 01 over ordinary Rust data,
 //! for comparing whole images byte by byte.
 
+#![deny(unsafe_code)]
+
 pub mod audit;
+pub mod bench;
 pub mod calls;
 pub mod check;
+pub mod compare;
 pub mod damage;
 pub mod edit;
 pub mod emit;
@@ -17,10 +21,14 @@ pub mod generate;
 pub mod layout;
 pub mod ledger;
 pub mod legal;
+#[cfg(feature = "library")]
+pub mod library;
 pub mod page;
 pub mod program;
 pub mod random;
 pub mod request;
 pub mod rule;
+pub mod samples;
 pub mod script;
 pub mod theorems;
+pub mod twin;

@@ -1,9 +1,10 @@
 //! The command line of the reference.
 
-use reference::fuzz::{self, Tally};
-use reference::request::CallKind;
+use reference::compare::programs::{Program, TWIN};
+use reference::compare::{self, tally};
+use reference::fuzz::{self, Failure, Tally};
 use reference::rule::Rule;
-use reference::{emit, events, explain, program, theorems as text};
+use reference::{bench, emit, events, explain, program, samples, theorems as text};
 use std::env;
 use std::fs;
 use std::path::Path;
@@ -14,6 +15,9 @@ const USAGE: &str = "usage:
   reference explain FILE        the layout, or every broken rule
   reference emit DIR SEED N     N images with the program's lines
   reference fuzz SEED N         N lists of calls and N damaged images
+  reference compare P SEED N    N images and N lists of calls against P, twin or library
+  reference bench               times of the twin and the library, in Markdown
+  reference samples DIR         the sample cards with the program's lines
   reference theorems SEED N     N images with a call each, as theorems of the trusted text";
 
 fn main() -> ExitCode {
@@ -24,6 +28,9 @@ fn main() -> ExitCode {
         ["explain", file] => explain(file),
         ["emit", folder, seed, count] => emit(folder, seed, count),
         ["fuzz", seed, count] => fuzz(seed, count),
+        ["compare", other, seed, count] => compare(other, seed, count),
+        ["bench"] => bench(),
+        ["samples", folder] => samples(folder),
         ["theorems", seed, count] => theorems(seed, count),
         _ => Err(USAGE.to_owned()),
     };
@@ -61,30 +68,56 @@ fn theorems(seed: &str, count: &str) -> Result<(), String> {
 
 fn fuzz(seed: &str, count: &str) -> Result<(), String> {
     let (seed, count) = (number(seed)?, number(count)?);
-    let tally = fuzz::fuzz(seed, count).map_err(|failure| {
-        let again = format!("reference fuzz {} 1", failure.seed);
-        format!("{}\nrun again with: {again}", failure.what)
-    })?;
-    print_calls(&tally);
+    let tally = fuzz::fuzz(seed, count).map_err(|failure| again("fuzz", failure))?;
+    print!("{}", tally::calls_table(&tally.calls));
     print_events(&tally);
     print_damage(&tally);
     println!("{count} passed, 0 failed");
     Ok(())
 }
 
-fn number(text: &str) -> Result<u64, String> {
-    text.parse().map_err(|_| format!("{text} is no number"))
+fn compare(other: &str, seed: &str, count: &str) -> Result<(), String> {
+    let (seed, count) = (number(seed)?, number(count)?);
+    let other = other_program(other)?;
+    let command = format!("compare {}", other.name);
+    let failed = |failure| again(&command, failure);
+    let mut tally = compare::images(&other, seed, count).map_err(failed)?;
+    tally.add(compare::lists(&other, seed, count).map_err(failed)?);
+    tally.add(compare::long_lists(&other, seed, count.div_ceil(100)).map_err(failed)?);
+    print!("{}", tally::images_table(&tally));
+    print!("{}", tally::calls_table(&tally.calls));
+    println!("{count} passed, 0 failed");
+    Ok(())
 }
 
-/// Calls by kind (rows) and number (columns).
-fn print_calls(tally: &Tally) {
-    let header: Vec<String> = (0..=10).map(|number| format!("{number:>7}")).collect();
-    println!("{:8}{}", "calls", header.concat());
-    for kind in CallKind::ALL {
-        let count = |number: u32| tally.calls.get(&(kind, number)).copied().unwrap_or(0);
-        let row: Vec<String> = (0..=10).map(|one| format!("{:>7}", count(one))).collect();
-        println!("{kind:8}{}", row.concat());
+fn samples(folder: &str) -> Result<(), String> {
+    samples::write(Path::new(folder)).map_err(|error| format!("{folder}: {error}"))
+}
+
+fn bench() -> Result<(), String> {
+    let library = other_program("library").ok();
+    print!("{}", bench::bench(library.as_ref()));
+    Ok(())
+}
+
+/// The program of this name that the reference is compared with.
+fn other_program(name: &str) -> Result<Program, String> {
+    match name {
+        "twin" => Ok(TWIN),
+        #[cfg(feature = "library")]
+        "library" => Ok(reference::library::LIBRARY),
+        _ => Err(format!("{name} is no program that is linked")),
     }
+}
+
+/// What failed, and the command that shows it again.
+fn again(command: &str, failure: Failure) -> String {
+    let (what, seed) = (failure.what, failure.seed);
+    format!("{what}\nrun again with: reference {command} {seed} 1")
+}
+
+fn number(text: &str) -> Result<u64, String> {
+    text.parse().map_err(|_| format!("{text} is no number"))
 }
 
 fn print_events(tally: &Tally) {

@@ -1,0 +1,176 @@
+//! The calls that are timed, and the images they are made on.
+
+use super::cards::{self, Filling};
+use crate::entries::MAX_LENGTH;
+use crate::request::{Call, Request};
+
+/// The sizes of the images, in pages.
+const SIZES: [usize; 3] = [8, 256, 4096];
+
+/// The fillings that are checked.
+const FILLINGS: [Filling; 6] = [
+    Filling::ManySmall,
+    Filling::FewLarge,
+    Filling::LongKeys,
+    Filling::Towers,
+    Filling::Tables,
+    Filling::Free,
+];
+
+/// One call on one image.
+pub struct Case {
+    pub call: &'static str,
+    pub image_name: &'static str,
+    pub image: Vec<u8>,
+    pub request: Request,
+}
+
+/// Checks of sound images, then of hostile ones.
+pub fn check_cases() -> Vec<Case> {
+    let mut cases = Vec::new();
+    for filling in FILLINGS {
+        for pages in SIZES.into_iter().filter(|pages| filling.fits(*pages)) {
+            let image = cards::sample(filling, pages, pages).image;
+            cases.push(case("check", filling.name(), image, Call::Check));
+        }
+    }
+    for pages in SIZES.into_iter().skip(1) {
+        for (name, image) in cards::hostile(pages) {
+            cases.push(case("check", name, image, Call::Check));
+        }
+    }
+    cases
+}
+
+fn case(call: &'static str, image_name: &'static str, image: Vec<u8>, request: Call) -> Case {
+    let request = Request {
+        call: request,
+        scratch_length: image.len(),
+        answer_length: MAX_LENGTH,
+        fill: 1,
+    };
+    Case {
+        call,
+        image_name,
+        image,
+        request,
+    }
+}
+
+/// The other calls, on images with some free pages and on full ones.
+pub fn call_cases() -> Vec<Case> {
+    let mut cases = Vec::new();
+    for pages in SIZES.into_iter().skip(1) {
+        for (filling, free, calls) in CALLS {
+            let sample = cards::sample(filling, pages, pages - free);
+            let keys = sample.layout.tables[0].1.keys();
+            for (name, call) in calls(keys) {
+                cases.push(case(name, filling.name(), sample.image.clone(), call));
+            }
+        }
+    }
+    cases
+}
+
+/// Calls on a table with so many keys.
+type CallsOn = fn(usize) -> Vec<(&'static str, Call)>;
+
+/// What fills an image, about how many pages are free, and the calls to make.
+const CALLS: [(Filling, usize, CallsOn); 5] = [
+    (Filling::ManySmall, 80, small_calls),
+    (Filling::FullSpans, 80, split_calls),
+    (Filling::FewLarge, 80, large_calls),
+    (Filling::FewLarge, 0, crowded_calls),
+    (Filling::Towers, 80, tower_calls),
+];
+
+fn get(key: Vec<u8>) -> Call {
+    let name = cards::NAME.to_vec();
+    Call::Get { name, key }
+}
+
+fn next(key: Vec<u8>) -> Call {
+    let name = cards::NAME.to_vec();
+    Call::Next { name, key }
+}
+
+fn put(key: Vec<u8>, length: usize) -> Call {
+    let (name, value) = (cards::NAME.to_vec(), vec![0x77; length]);
+    Call::Put { name, key, value }
+}
+
+fn remove(key: Vec<u8>) -> Call {
+    let name = cards::NAME.to_vec();
+    Call::Remove { name, key }
+}
+
+fn create(name: &[u8]) -> Call {
+    let name = name.to_vec();
+    Call::Create { name }
+}
+
+/// A key that is not there, after this one.
+fn missing(place: usize) -> Vec<u8> {
+    let mut key = cards::small_key(place);
+    key.push(b'!');
+    key
+}
+
+fn small_calls(keys: usize) -> Vec<(&'static str, Call)> {
+    let last = keys - 1;
+    let key = cards::small_key;
+    vec![
+        ("get first key", get(key(0))),
+        ("get last key", get(key(last))),
+        ("get missing key", get(missing(keys / 2))),
+        ("next of the empty key", next(Vec::new())),
+        ("next of a key", next(key(keys / 2))),
+        ("next of the last key", next(key(last))),
+        ("put, value replaced", put(key(keys / 2), 4)),
+        ("put, new key", put(missing(keys / 2), 4)),
+        ("put, 65,535 bytes", put(missing(keys / 2), MAX_LENGTH)),
+        ("remove first key", remove(key(0))),
+        ("remove last key", remove(key(last))),
+        ("remove missing key", remove(missing(keys / 2))),
+        ("create", create(b"another")),
+        ("create, there already", create(cards::NAME)),
+    ]
+}
+
+fn split_calls(keys: usize) -> Vec<(&'static str, Call)> {
+    vec![
+        ("put, new key, split", put(missing(keys / 2), 4)),
+        (
+            "put, 65,535 bytes, split",
+            put(missing(keys / 2), MAX_LENGTH),
+        ),
+    ]
+}
+
+fn large_calls(_: usize) -> Vec<(&'static str, Call)> {
+    let key = cards::small_key;
+    vec![
+        ("get 65,535 bytes", get(key(0))),
+        ("put, 65,535 bytes replaced", put(key(0), MAX_LENGTH)),
+        ("put, 65,535 bytes by 4", put(key(0), 4)),
+        ("put, new key, 65,535 bytes", put(missing(0), MAX_LENGTH)),
+        ("remove 65,535 bytes", remove(key(0))),
+    ]
+}
+
+fn crowded_calls(_: usize) -> Vec<(&'static str, Call)> {
+    vec![
+        ("put, no room", put(missing(0), MAX_LENGTH)),
+        ("create, no room", create(b"another")),
+    ]
+}
+
+fn tower_calls(keys: usize) -> Vec<(&'static str, Call)> {
+    let last = keys - 1;
+    let key = cards::small_key;
+    vec![
+        ("get last key", get(key(last))),
+        ("put, new key, no split", put(missing(keys / 2), 4)),
+        ("remove, span unlinked", remove(key(last / 2))),
+    ]
+}

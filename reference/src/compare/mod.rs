@@ -1,0 +1,124 @@
+//! Another program beside the reference: the same images and calls, with every number and every
+//! byte compared.
+
+pub mod cases;
+pub mod programs;
+pub mod tally;
+
+use crate::calls::Answer;
+use crate::check::check;
+use crate::fuzz::{Failure, CALLS};
+use crate::generate::Knobs;
+use crate::ledger::{tables_of, Ledger, Said};
+use crate::page::pages_of;
+use crate::random::Random;
+use crate::request::Request;
+use crate::script::{self, Script};
+use programs::{Outcome, Program, REFERENCE};
+use tally::{Called, Tally};
+
+/// Checks `count` images by both programs, for the seeds from `seed` on, and makes another call on
+/// each.
+pub fn images(program: &Program, seed: u64, count: u64) -> Result<Tally, Failure> {
+    let mut tally = Tally::default();
+    for seed in (0..count).map(|step| seed.wrapping_add(step)) {
+        let case = cases::case(seed);
+        let compare = |request: &Request| {
+            let outcome = compare_call(program, &case.image, request);
+            outcome.map_err(|what| Failure {
+                seed,
+                what: format!("{} on {:?}: {what}", request.call.kind(), case.source),
+            })
+        };
+        let number = compare(&case.check)?.answer.number;
+        *tally.images.entry((case.source, number)).or_default() += 1;
+        let number = compare(&case.other)?.answer.number;
+        let kind = case.other.call.kind();
+        *tally.calls.entry((kind, number)).or_default() += 1;
+        let pages = pages_of(case.image.len()).unwrap_or(0);
+        *tally.sizes.entry(pages).or_default() += 1;
+    }
+    Ok(tally)
+}
+
+/// Runs `count` lists of calls by both programs, for the seeds from `seed` on: the lists that
+/// `fuzz` runs.
+pub fn lists(program: &Program, seed: u64, count: u64) -> Result<Tally, Failure> {
+    let mut tally = Tally::default();
+    for seed in (0..count).map(|step| seed.wrapping_add(step)) {
+        let script = script::script(seed, CALLS);
+        let failure = |what| Failure { seed, what };
+        list(program, &script, &mut tally.calls).map_err(failure)?;
+    }
+    Ok(tally)
+}
+
+/// How many calls a long list has.
+const LONG: usize = 250;
+
+/// Runs `count` long lists of calls by both programs, for the seeds from `seed` on: on images with
+/// small spans and much room, so that tables grow and shrink by many spans and towers.
+pub fn long_lists(program: &Program, seed: u64, count: u64) -> Result<Tally, Failure> {
+    let knobs = Knobs {
+        pages: 60..=300,
+        span_sizes: vec![2, 3, 4],
+        near_page_end: 5,
+        long: 2,
+        crowded: 0,
+        ..Knobs::mixed()
+    };
+    let mut tally = Tally::default();
+    for seed in (0..count).map(|step| seed.wrapping_add(step)) {
+        let script = script::script_on(&mut Random::new(seed), &knobs, LONG);
+        let failure = |what| Failure { seed, what };
+        list(program, &script, &mut tally.calls).map_err(failure)?;
+    }
+    Ok(tally)
+}
+
+/// Runs one list of calls by both programs and feeds the ledger.
+pub fn list(program: &Program, script: &Script, called: &mut Called) -> Result<(), String> {
+    let layout = &script.sample.layout;
+    let mut ledger = Ledger::new(u64::from(layout.pages), tables_of(layout));
+    let mut image = script.sample.image.clone();
+    for (step, request) in script.requests.iter().enumerate() {
+        let kind = request.call.kind();
+        let at = |what| format!("call {step}, a {kind}: {what}");
+        let outcome = compare_call(program, &image, request).map_err(at)?;
+        let number = outcome.answer.number;
+        let said = ledger.feed(request, number == 10);
+        as_said(&outcome, &said).map_err(at)?;
+        *called.entry((kind, number)).or_default() += 1;
+        image = outcome.image;
+    }
+    let layout = check(&image).map_err(|broken| format!("after the list: {}", broken[0]))?;
+    match tables_of(&layout) == *ledger.tables() {
+        true => Ok(()),
+        false => Err("the tables after the list are not the ledger's".to_owned()),
+    }
+}
+
+/// Runs a call by the reference and, if it has the call, by the program; the outcome of both.
+fn compare_call(program: &Program, image: &[u8], request: &Request) -> Result<Outcome, String> {
+    let expected = REFERENCE.run(image, request).expect("all six calls");
+    match program.run(image, request) {
+        None => Ok(expected),
+        Some(given) => expected.same_as(&given).map(|()| given),
+    }
+}
+
+/// Whether an outcome is what the ledger says.
+fn as_said(outcome: &Outcome, said: &Said) -> Result<(), String> {
+    let answer = Answer {
+        number: said.number,
+        length: said.length,
+        pages: said.pages,
+        tables: said.tables,
+        keys: said.keys,
+        free: outcome.answer.free,
+    };
+    match outcome.answer == answer && outcome.buffer.starts_with(&said.bytes) {
+        true => Ok(()),
+        false => Err(format!("{:?}, but by the ledger {said:?}", outcome.answer)),
+    }
+}

@@ -1,0 +1,156 @@
+//! Sample cards: small images in files, each with the line that the program has to write for it.
+
+use crate::calls;
+use crate::encode;
+use crate::layout::{Block, Layout, Span, Table, Tower};
+use crate::page::{self, skip_list, span, METAINDEX, PAGE};
+use crate::program;
+use std::fs;
+use std::io;
+use std::path::Path;
+
+/// A card with the line that the program has to write for it.
+#[derive(Clone, Debug)]
+pub struct Sample {
+    pub name: &'static str,
+    pub card: Vec<u8>,
+    pub line: &'static str,
+}
+
+/// The table of the samples.
+const LENS: &[u8] = b"lens";
+
+/// The span size of created tables.
+const SPAN_SIZE: u16 = 4;
+
+/// All samples.
+pub fn samples() -> Vec<Sample> {
+    let sample = |name, card, line| Sample { name, card, line };
+    let cameras = cameras();
+    vec![
+        sample("blank", blank(8), "pages 8 tables 0 keys 0 free 4"),
+        sample("lens", lens(8), "pages 8 tables 1 keys 0 free 1"),
+        sample(
+            "cameras",
+            cameras.clone(),
+            "pages 32 tables 1 keys 30 free 11",
+        ),
+        sample("empty-file", Vec::new(), "refused 1"),
+        sample("ring-of-spans", ring_of_spans(&cameras), "refused 3"),
+        sample("cut-in-a-page", cameras[..20_000].to_vec(), "refused 1"),
+        sample(
+            "cut-after-a-page",
+            cameras[..20 * PAGE].to_vec(),
+            "refused 3",
+        ),
+        sample("too-long", too_long(&cameras), "too long"),
+    ]
+}
+
+/// Writes every sample into the folder: NAME.card, and NAME.line with the line.
+pub fn write(folder: &Path) -> io::Result<()> {
+    fs::create_dir_all(folder)?;
+    for Sample { name, card, line } in samples() {
+        fs::write(folder.join(format!("{name}.card")), card)?;
+        fs::write(folder.join(format!("{name}.line")), format!("{line}\n"))?;
+    }
+    Ok(())
+}
+
+/// "An empty metaindex on pages 2 to 4, and page 5 a free-list block listing" the others.
+fn blank(pages: u32) -> Vec<u8> {
+    let first = Span {
+        page: 3,
+        continuations: Vec::new(),
+        entries: Vec::new(),
+        tower: None,
+    };
+    let head = Tower {
+        page: 4,
+        max: 12,
+        height: 0,
+    };
+    let layout = Layout {
+        pages,
+        mounted: 0,
+        span_size: SPAN_SIZE,
+        meta: Table {
+            root: METAINDEX,
+            span_size: 16,
+            head,
+            spans: vec![first],
+        },
+        tables: Vec::new(),
+        free: vec![Block {
+            page: 5,
+            listed: (6..=pages).collect(),
+        }],
+    };
+    let mut image = vec![0; PAGE * pages as usize];
+    encode::layout(&mut image, &layout);
+    image
+}
+
+/// "After create "lens"."
+fn lens(pages: u32) -> Vec<u8> {
+    let mut image = blank(pages);
+    let mut scratch = vec![0; image.len()];
+    let answer = calls::create(&mut image, &mut scratch, LENS);
+    assert_eq!(answer.number, 0, "there is room for a table");
+    image
+}
+
+/// A table "lens" with the records of thirty cameras, on as many pages as the program reads.
+fn cameras() -> Vec<u8> {
+    let mut image = lens((program::MOST / PAGE) as u32);
+    let mut scratch = vec![0; image.len()];
+    for camera in 1..=30 {
+        let key = format!("cam{camera:02}").into_bytes();
+        let value = record(camera);
+        let answer = calls::put(&mut image, &mut scratch, LENS, &key, &value);
+        assert_eq!(answer.number, 0, "there is room for a camera");
+    }
+    image
+}
+
+/// A small calibration record: focal lengths and centre, none, two or four numbers of a model,
+/// and notes, each after its count.
+fn record(camera: u32) -> Vec<u8> {
+    let step = f64::from(camera);
+    let numbers = [1400.0 + step, 1401.5 + step, 960.25, 540.75 - step / 4.0];
+    let model = [-0.25, 0.0625 + step / 64.0, 0.001, -0.0005];
+    let notes = format!("camera {camera}, set up at the north gate");
+    let mut record = vec![4];
+    record.extend(numbers.iter().flat_map(|number| number.to_be_bytes()));
+    let model = &model[..2 * (camera as usize % 3)];
+    record.push(model.len() as u8);
+    record.extend(model.iter().flat_map(|number| number.to_be_bytes()));
+    record.push(notes.len() as u8);
+    record.extend(notes.bytes());
+    record
+}
+
+/// The last span of the table leads back to its first.
+fn ring_of_spans(cameras: &[u8]) -> Vec<u8> {
+    let mut image = cameras.to_vec();
+    let root = (1..=image.len() as u32 / PAGE as u32)
+        .rfind(|&number| number != METAINDEX && page::bears(&image, number, page::Kind::SkipList))
+        .expect("the skip-list page of the table");
+    let first = page::read_u32(&image, root, skip_list::FIRST_SPAN);
+    let mut last = first;
+    loop {
+        match page::read_u32(&image, last, span::NEXT) {
+            0 => break,
+            next => last = next,
+        }
+    }
+    page::write_u32(&mut image, last, span::NEXT, first);
+    image
+}
+
+/// One byte more than the program reads.
+fn too_long(cameras: &[u8]) -> Vec<u8> {
+    let mut card = cameras.to_vec();
+    card.resize(program::MOST + 1, 0);
+    card
+}

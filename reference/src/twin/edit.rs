@@ -1,0 +1,136 @@
+//! Put, remove and create on an accepted image.
+//!
+//! What becomes of the target span is planned by lengths alone, so that a call without room is
+//! refused before any write. Then the pages are drawn, the span's new pages are staged in the
+//! scratch, which is zero, and copied to the image whole; the scratch is zero again afterwards.
+
+use super::free;
+use super::page::{link, page, page_mut, set_mark, set_u16, set_u32, u16_at, u32_at, Page};
+use super::plan::{change_counts, write_tower, Plan};
+use super::search::{self, Path, Table};
+use crate::calls::Refusal;
+use crate::page::{skip_list, span, superblock, tower, tower_entry, Kind, SUPERBLOCK};
+
+/// The pages that a create wants last: a skip-list page, a span and a head.
+const NEW_TABLE: usize = 3;
+
+/// The max height of a created table's head.
+const NEW_HEAD_MAX: u16 = 12;
+
+/// Puts a value under a key of a table.
+pub fn put(
+    pages: &mut [Page],
+    staged: &mut [Page],
+    free: u64,
+    table: Table,
+    key: &[u8],
+    value: &[u8],
+) -> Result<(), Refusal> {
+    let plan = Plan::put(pages, table, key, value.len());
+    let mut draw = plan.draw(pages, free, 0)?;
+    let new = plan.link(pages, staged, &mut draw);
+    plan.stage(pages, staged, value);
+    plan.write(pages, staged, new);
+    draw.give_back_rest(pages);
+    Ok(())
+}
+
+/// Creates a table: a put of the name into the metaindex that also wants, last, the table's pages.
+pub fn create(
+    pages: &mut [Page],
+    staged: &mut [Page],
+    free: u64,
+    name: &[u8],
+) -> Result<(), Refusal> {
+    let plan = Plan::put(pages, Table::metaindex(pages), name, 4);
+    if plan.replaces() {
+        return Err(Refusal::TableExists);
+    }
+    let mut draw = plan.draw(pages, free, NEW_TABLE)?;
+    let new = plan.link(pages, staged, &mut draw);
+    let root = draw.one(pages);
+    plan.stage(pages, staged, &root.to_be_bytes());
+    plan.write(pages, staged, new);
+    let (span, head) = (draw.one(pages), draw.one(pages));
+    write_new_table(pages, root, span, head);
+    draw.give_back_rest(pages);
+    Ok(())
+}
+
+/// Removes a key.
+pub fn remove(
+    pages: &mut [Page],
+    staged: &mut [Page],
+    free: u64,
+    table: Table,
+    key: &[u8],
+) -> Result<(), Refusal> {
+    let plan = Plan::remove(pages, table, key).ok_or(Refusal::NoSuchKey)?;
+    if plan.empties() && plan.target() != table.first_span {
+        unlink(pages, table, key, plan.target());
+        return Ok(());
+    }
+    let mut draw = plan.draw(pages, free, 0)?;
+    let new = plan.link(pages, staged, &mut draw);
+    plan.stage(pages, staged, &[]);
+    plan.write(pages, staged, new);
+    draw.give_back_rest(pages);
+    Ok(())
+}
+
+/// Writes the three pages of an empty table whole.
+fn write_new_table(pages: &mut [Page], root: u32, span: u32, head: u32) {
+    let span_size = u16_at(page(pages, SUPERBLOCK), superblock::SPAN_SIZE);
+    for number in [root, span, head] {
+        page_mut(pages, number).fill(0);
+    }
+    let list = page_mut(pages, root);
+    set_mark(list, Kind::SkipList);
+    set_u32(list, skip_list::FIRST_SPAN, span);
+    set_u32(list, skip_list::FIRST_LEVEL, head);
+    set_u32(list, skip_list::SPANS, 1);
+    set_u32(list, skip_list::LEVELS, 1);
+    set_u16(list, skip_list::SPAN_SIZE, span_size);
+    let first = page_mut(pages, span);
+    set_mark(first, Kind::Span);
+    set_u16(first, span::MAX_KEYS, span_size);
+    write_tower(pages, head, NEW_HEAD_MAX, 0, span);
+}
+
+/// Unlinks a span with this one key that is not the first, its tower (if any) too, and gives
+/// their pages back: continuation pages in chain order, span, tower.
+fn unlink(pages: &mut [Page], table: Table, key: &[u8], number: u32) {
+    let path = table.before(pages, key);
+    let next = u32_at(page(pages, number), span::NEXT);
+    set_u32(page_mut(pages, path.span), span::NEXT, next);
+    if next != 0 {
+        set_u32(page_mut(pages, next), span::PREVIOUS, path.span);
+    }
+    let tower = unlink_tower(pages, &table, &path, number);
+    let towers = if tower == 0 { 0 } else { -1 };
+    change_counts(pages, table.root, [-1, -1, towers]);
+    let first = link(page(pages, number));
+    free::give_back_chain(pages, first);
+    free::give_back(pages, number);
+    if tower != 0 {
+        free::give_back(pages, tower);
+    }
+}
+
+/// Takes the tower of a span out of its levels; gives its page, or 0 where the span has none.
+fn unlink_tower(pages: &mut [Page], table: &Table, path: &Path, span: u32) -> u32 {
+    if table.height == 0 {
+        return 0;
+    }
+    let number = u32_at(page(pages, path.towers[0]), tower_entry(0));
+    if number == 0 || search::span_of(pages, number) != span {
+        return 0;
+    }
+    let height = usize::from(u16_at(page(pages, number), tower::CURRENT));
+    for (level, &before) in path.towers[..height].iter().enumerate() {
+        let offset = tower_entry(level);
+        let after = u32_at(page(pages, number), offset);
+        set_u32(page_mut(pages, before), offset, after);
+    }
+    number
+}

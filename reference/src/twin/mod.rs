@@ -1,0 +1,170 @@
+//! The twin: the six calls over lent memory, written for speed.
+//!
+//! It does the same job as the verified library with the same means, no heap, no unsafe code and
+//! a few kilobytes of stack, so that the library's time can be set beside that of plain Rust. The
+//! first P bytes of the scratch are the claims of the pages while the image is verified; put,
+//! remove and create then stage the pages of a span in the scratch.
+
+#![forbid(unsafe_code)]
+
+mod edit;
+mod entry;
+mod free;
+mod page;
+mod plan;
+mod search;
+mod stage;
+mod verify;
+
+use crate::calls::{Answer, Refusal};
+use crate::entries::MAX_LENGTH;
+use entry::Run;
+use page::Page;
+use search::Table;
+use verify::{legal_name, Counts};
+
+/// Checks an image.
+pub fn check(image: &[u8], scratch: &mut [u8]) -> Answer {
+    let answer = open(image, scratch).map(|(pages, counts)| Answer {
+        pages: pages.len() as u64,
+        tables: counts.tables,
+        keys: counts.keys,
+        free: counts.free,
+        ..Answer::default()
+    });
+    answer.unwrap_or_else(Answer::from)
+}
+
+/// The value of a key.
+pub fn get(image: &[u8], scratch: &mut [u8], name: &[u8], key: &[u8], into: &mut [u8]) -> Answer {
+    try_get(image, scratch, name, key, into).unwrap_or_else(Answer::from)
+}
+
+fn try_get(
+    image: &[u8],
+    scratch: &mut [u8],
+    name: &[u8],
+    key: &[u8],
+    into: &mut [u8],
+) -> Result<Answer, Refusal> {
+    let (pages, _) = open(image, scratch)?;
+    require(legal_name(name) && legal_key(key), Refusal::NameOrKey)?;
+    let table = Table::named(pages, name).ok_or(Refusal::NoSuchTable)?;
+    let entry = table.entry(pages, key).ok_or(Refusal::NoSuchKey)?;
+    hand_over(pages, entry.value, into)
+}
+
+/// The smallest key above the one asked.
+pub fn next(image: &[u8], scratch: &mut [u8], name: &[u8], key: &[u8], into: &mut [u8]) -> Answer {
+    try_next(image, scratch, name, key, into).unwrap_or_else(Answer::from)
+}
+
+fn try_next(
+    image: &[u8],
+    scratch: &mut [u8],
+    name: &[u8],
+    key: &[u8],
+    into: &mut [u8],
+) -> Result<Answer, Refusal> {
+    let (pages, _) = open(image, scratch)?;
+    let legal = legal_name(name) && key.len() <= MAX_LENGTH;
+    require(legal, Refusal::NameOrKey)?;
+    let table = Table::named(pages, name).ok_or(Refusal::NoSuchTable)?;
+    let above = table.above(pages, key).ok_or(Refusal::NoSuchKey)?;
+    hand_over(pages, above, into)
+}
+
+/// Puts a value under a key.
+pub fn put(image: &mut [u8], scratch: &mut [u8], name: &[u8], key: &[u8], value: &[u8]) -> Answer {
+    done(try_put(image, scratch, name, key, value))
+}
+
+fn try_put(
+    image: &mut [u8],
+    scratch: &mut [u8],
+    name: &[u8],
+    key: &[u8],
+    value: &[u8],
+) -> Result<(), Refusal> {
+    let (pages, counts) = open(image, scratch)?;
+    require(legal_name(name) && legal_key(key), Refusal::NameOrKey)?;
+    require(value.len() <= MAX_LENGTH, Refusal::ValueLength)?;
+    let table = Table::named(pages, name).ok_or(Refusal::NoSuchTable)?;
+    let (pages, staged) = lent(image, scratch);
+    edit::put(pages, staged, counts.free, table, key, value)
+}
+
+/// Removes a key.
+pub fn remove(image: &mut [u8], scratch: &mut [u8], name: &[u8], key: &[u8]) -> Answer {
+    done(try_remove(image, scratch, name, key))
+}
+
+fn try_remove(
+    image: &mut [u8],
+    scratch: &mut [u8],
+    name: &[u8],
+    key: &[u8],
+) -> Result<(), Refusal> {
+    let (pages, counts) = open(image, scratch)?;
+    require(legal_name(name) && legal_key(key), Refusal::NameOrKey)?;
+    let table = Table::named(pages, name).ok_or(Refusal::NoSuchTable)?;
+    let (pages, staged) = lent(image, scratch);
+    edit::remove(pages, staged, counts.free, table, key)
+}
+
+/// Creates a table.
+pub fn create(image: &mut [u8], scratch: &mut [u8], name: &[u8]) -> Answer {
+    done(try_create(image, scratch, name))
+}
+
+fn try_create(image: &mut [u8], scratch: &mut [u8], name: &[u8]) -> Result<(), Refusal> {
+    let (_, counts) = open(image, scratch)?;
+    require(legal_name(name), Refusal::NameOrKey)?;
+    let (pages, staged) = lent(image, scratch);
+    edit::create(pages, staged, counts.free, name)
+}
+
+/// Refusals 1 to 3; the scratch is zero over the length of the image but with 1 and 2.
+fn open<'a>(image: &'a [u8], scratch: &mut [u8]) -> Result<(&'a [Page], Counts), Refusal> {
+    let pages = page::pages(image).ok_or(Refusal::ImageLength)?;
+    let scratch = scratch.get_mut(..image.len());
+    let scratch = scratch.ok_or(Refusal::ScratchShort)?;
+    scratch.fill(0);
+    let claims = &mut scratch[..pages.len()];
+    let counts = verify::verify(pages, claims);
+    claims.fill(0);
+    let counts = counts.ok_or(Refusal::NotWellFormed)?;
+    Ok((pages, counts))
+}
+
+/// The pages of an accepted image to be written, and as many pages of the scratch.
+fn lent<'a>(image: &'a mut [u8], scratch: &'a mut [u8]) -> (&'a mut [Page], &'a mut [Page]) {
+    let staged = &mut scratch[..image.len()];
+    (page::pages_mut(image), page::pages_mut(staged))
+}
+
+fn done(outcome: Result<(), Refusal>) -> Answer {
+    outcome.map_or_else(Answer::from, |()| Answer::default())
+}
+
+fn require(holds: bool, refusal: Refusal) -> Result<(), Refusal> {
+    match holds {
+        true => Ok(()),
+        false => Err(refusal),
+    }
+}
+
+fn legal_key(key: &[u8]) -> bool {
+    (1..=MAX_LENGTH).contains(&key.len())
+}
+
+/// Copies the answer to the start of the buffer.
+fn hand_over(pages: &[Page], answer: Run, into: &mut [u8]) -> Result<Answer, Refusal> {
+    let needed = answer.length;
+    require(into.len() >= needed, Refusal::AnswerShort { needed })?;
+    answer.copy_to(pages, into);
+    Ok(Answer {
+        length: needed as u64,
+        ..Answer::default()
+    })
+}

@@ -1,0 +1,41 @@
+//! The sample cards: their lines, and that the files are those that the command makes.
+
+use reference::program::line;
+use reference::samples::samples;
+use std::fs;
+use std::path::Path;
+
+#[test]
+fn every_sample_has_its_line() {
+    for sample in samples() {
+        assert_eq!(line(&sample.card), sample.line, "{}", sample.name);
+    }
+}
+
+#[test]
+fn only_one_sample_is_longer_than_the_program_reads() {
+    let samples = samples();
+    let mut long = samples.iter().filter(|sample| sample.card.len() > 32_768);
+    assert_eq!(long.next().map(|sample| sample.card.len()), Some(32_769));
+    assert!(long.next().is_none());
+}
+
+#[test]
+fn the_files_are_those_that_the_command_makes() {
+    let folder = Path::new(env!("CARGO_MANIFEST_DIR")).join("../samples");
+    for sample in samples() {
+        let read = |end| fs::read(folder.join(format!("{}.{end}", sample.name)));
+        assert!(
+            read("card").expect("a card") == sample.card,
+            "{}",
+            sample.name
+        );
+        let line = format!("{}\n", sample.line);
+        assert_eq!(
+            read("line").expect("a line"),
+            line.as_bytes(),
+            "{}",
+            sample.name
+        );
+    }
+}

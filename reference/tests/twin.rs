@@ -1,0 +1,115 @@
+//! The twin against the reference, for fixed seeds; more by `reference compare twin SEED N`.
+
+use reference::bench::cards::{self, Filling};
+use reference::compare::cases::{case, Source};
+use reference::compare::programs::{Program, REFERENCE, TWIN};
+use reference::compare::{images, lists, long_lists};
+use reference::generate::{self, Knobs};
+use reference::page::write_u32;
+use reference::random::Random;
+use reference::request::{Call, CallKind, Request};
+use reference::rule::Rule;
+
+#[test]
+fn images_are_checked_alike() {
+    let tally = images(&TWIN, 1, 4000).expect("no difference");
+    let count = |source, number| tally.images.get(&(source, number)).copied().unwrap_or(0);
+    for &rule in Rule::ALL {
+        let number = if rule == Rule::ImageLength { 1 } else { 3 };
+        assert!(count(Source::Damaged(rule), number) > 10, "{rule}");
+    }
+    assert!(count(Source::Sound, 0) > 1000 && count(Source::Sound, 2) > 50);
+    assert!(count(Source::SetAnew, 0) > 20 && count(Source::SetAnew, 3) > 20);
+    assert!(count(Source::OddLength, 1) > 20);
+    assert!(count(Source::Noise, 3) > 20);
+    assert!(tally.sizes.contains_key(&4) && tally.sizes.contains_key(&4096));
+}
+
+#[test]
+fn lists_of_calls_have_the_same_outcome() {
+    let tally = lists(&TWIN, 1, 400).expect("no difference");
+    for kind in CallKind::ALL {
+        let done = tally.calls.get(&(kind, 0)).copied().unwrap_or(0);
+        assert!(done > 50, "{kind}: {done}");
+    }
+    for kind in [CallKind::Put, CallKind::Create] {
+        assert!(tally.calls.contains_key(&(kind, 10)), "{kind}");
+    }
+}
+
+#[test]
+fn long_lists_of_calls_have_the_same_outcome() {
+    let tally = long_lists(&TWIN, 1, 10).expect("no difference");
+    assert_eq!(tally.calls.values().sum::<u64>(), 2500);
+}
+
+#[test]
+fn an_image_to_check_is_the_same_each_time() {
+    for seed in [1, 2, 3, 4] {
+        assert!(case(seed) == case(seed));
+    }
+}
+
+/// The number that both programs answer to a check with this image.
+fn checked(image: &[u8]) -> u32 {
+    let request = Request {
+        call: Call::Check,
+        scratch_length: image.len() + 5,
+        answer_length: 0,
+        fill: 9,
+    };
+    let run = |program: &Program| program.run(image, &request).expect("a check");
+    let (expected, given) = (run(&REFERENCE), run(&TWIN));
+    expected.same_as(&given).expect("no difference");
+    given.answer.number
+}
+
+#[test]
+fn images_of_the_benchmark() {
+    let fillings = [
+        Filling::ManySmall,
+        Filling::FullSpans,
+        Filling::FewLarge,
+        Filling::LongKeys,
+        Filling::Towers,
+        Filling::Tables,
+        Filling::Free,
+    ];
+    for pages in [8, 100, 256, 1000] {
+        for filling in fillings {
+            let image = cards::sample(filling, pages, pages).image;
+            assert_eq!(checked(&image), 0, "{} {pages}", filling.name());
+        }
+    }
+    for pages in [100, 256] {
+        for (name, image) in cards::hostile(pages) {
+            assert_eq!(checked(&image), 3, "{name} {pages}");
+        }
+    }
+}
+
+/// Every number near the beginning of every page set to every page number, and beyond.
+#[test]
+fn every_field_of_small_images_set_anew() {
+    let mut random = Random::new(29);
+    let towers = Knobs {
+        pages: 14..=16,
+        ..Knobs::full_of_towers()
+    };
+    let mut accepted = 0;
+    for knobs in [&Knobs::tiny(), &towers].repeat(4) {
+        let sample = generate::sample(&mut random, knobs);
+        let mut numbers: Vec<u32> = (0..=sample.layout.pages + 1).collect();
+        numbers.extend([129, 253, 0x1_0000, 0xffff_ffff]);
+        for page in 1..=sample.layout.pages {
+            for offset in (2..48).step_by(2) {
+                for &number in &numbers {
+                    let mut changed = sample.image.clone();
+                    write_u32(&mut changed, page, offset, number);
+                    accepted += u32::from(checked(&changed) == 0);
+                }
+            }
+        }
+    }
+    assert!(accepted > 500);
+}
