@@ -13,7 +13,7 @@ use Rattle.entries.specs.declared.key.Order.the-variants.{Less, Equal, G
 use Rattle.entries.specs.declared.place.Place.{Place}
 use Rattle.entries.specs.declared.place.Got.{Got}
 use Rattle.entries.specs.Places.{IsPage, Rest, Enough, Stepped}
-use Rattle.entries.specs.Keys.{KeyAt, Key, order, Compared, ComparedTo, Printed, Near, Bytes}
+use Rattle.entries.specs.Keys.{KeyAt, Key, order, Compared, ComparedTo, Printed, Near, KeyBytes}
 use Rattle.entries.proofs.Rests.{rest-one, rest-take}
 use Rattle.entries.proofs.Orders.{order-less, order-greater, order-on, order-none, order-shorter, order-longer, within-low, within-high, within-on}
 
@@ -64,11 +64,11 @@ key-step img at (suc n) k a z g t =
 
 -- ---- keys whose bytes are at hand
 
-pub key-bytes : {img : List ℕ} {at : Place} {n : ℕ} (i : ℕ) → i ≡ 1024 * (at .page - 1) + at .offset → 0 < n → at .offset + n ≤ 1024 → Bytes img at n (take (i + n - i) (drop i img))
+pub key-bytes : {img : List ℕ} {at : Place} {n : ℕ} (i : ℕ) → i ≡ 1024 * (at .page - 1) + at .offset → 0 < n → at .offset + n ≤ 1024 → KeyBytes img at n (take (i + n - i) (drop i img))
 key-bytes {img} {at} {n} i e h f = let w : i + n - i ≡ n = omega arith in record { are = λ k a. rw (w, e) (sym (key-part a h f)) }
 
-module _ {img : List ℕ} {a : Place} {m : ℕ} (x : List ℕ) (u : Bytes img a m x) where
-  pub compared-bytes : {b : Place} {n : ℕ} (y : List ℕ) → Bytes img b n y → (r : Order) → r ≡ order x y → Compared img a m b n r
+module _ {img : List ℕ} {a : Place} {m : ℕ} (x : List ℕ) (u : KeyBytes img a m x) where
+  pub compared-bytes : {b : Place} {n : ℕ} (y : List ℕ) → KeyBytes img b n y → (r : Order) → r ≡ order x y → Compared img a m b n r
   compared-bytes y v r e = record { is = λ k l p q. rw (← u .are k p, ← v .are l q) e }
 
   pub compared-to-bytes : (l : List ℕ) (r : Order) → r ≡ order x l → ComparedTo img a m l r

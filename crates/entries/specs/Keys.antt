@@ -52,5 +52,5 @@ pub record OnPage (at : Place) (n : ℕ) (r : Bool) : Type 0 where
   pub fits : r ≡ true → at .offset + n ≤ 1024
 
 -- the bytes bs are the key
-pub record Bytes (img : List ℕ) (at : Place) (n : ℕ) (bs : List ℕ) : Type 0 where
+pub record KeyBytes (img : List ℕ) (at : Place) (n : ℕ) (bs : List ℕ) : Type 0 where
   pub are : (k : List ℕ) → KeyAt img at n k → bs ≡ k

@@ -3,7 +3,7 @@
 ghost use mathlib.Core.Path.{_≡_};
 ghost use Prim.Native.Nat.{_+_, _≤_, _<_};
 ghost use Rattle.blockfile.specs.Order.{allWithin};
-ghost use Rattle.entries.specs.Keys.{Key, order, Compared, ComparedTo, Printed, Least, Near, OnPage, Bytes};
+ghost use Rattle.entries.specs.Keys.{Key, order, Compared, ComparedTo, Printed, Least, Near, OnPage, KeyBytes};
 use crate::place::Place;
 use crate::place::step;
 
@@ -78,7 +78,7 @@ fn on_page(at: Place, n: usize) -> bool
 // The bytes of a key that lies on one page.
 fn key_bytes(image: &[u8], at: Place, n: usize) -> &[u8]
     requires { ⌜ Key (now image) at n × (0 < n) × (at .offset + n ≤ 1024) ⌝ }
-    ensures { λ r. ⌜ Bytes (now (image .entry)) at n (now r) ⌝ }
+    ensures { λ r. ⌜ KeyBytes (now (image .entry)) at n (now r) ⌝ }
 {
     let page = at.page;
     let offset = at.offset;

@@ -11,12 +11,13 @@ use lib.Seq.{drop-drop}
 use lib.Dec.{T, ltb}
 use borrow.Author.Tests.{ltb-true, ltb-false}
 use Rattle.blockfile.specs.Order.{bytesBelow}
+use Rattle.blockfile.proofs.Bools.{so, not-so}
 use Rattle.entries.specs.declared.place.Place.{Place}
 use Rattle.entries.specs.declared.place.Sizes.{Sizes}
 use Rattle.entries.specs.declared.key.Order.{Order}
 use Rattle.entries.specs.declared.key.Order.the-variants.{Less}
 use Rattle.entries.specs.Places.{Rest, Enough, Moved, gap, Measured}
-use Rattle.entries.specs.Keys.{KeyAt, Key, order, Compared}
+use Rattle.entries.specs.Keys.{KeyAt, Key, Compared}
 use Rattle.entries.proofs.Rests.{rest-one, rest-length}
 use Rattle.entries.proofs.Places.{gap-next, gap-here}
 use Rattle.entries.proofs.Orders.{less-below, below-less}
@@ -25,7 +26,7 @@ use Rattle.spans.specs.declared.Rule.{Rule}
 use Rattle.spans.specs.declared.entry.Last.{Last}
 use Rattle.spans.specs.declared.entry.Entered.{Entered}
 use Rattle.spans.specs.declared.entry.Entered.the-variants.{Bad, Read}
-use Rattle.spans.specs.Entries.{fits, Allowed, skip, keyLength, valueLength, keyOf, taken, Run, Ready, Ends, Entering}
+use Rattle.spans.specs.Entries.{fits, Met, IsAbove, Allowed, skip, keyLength, valueLength, keyOf, taken, Run, Ready, Ends, Entering}
 
 -- length bytes are moved past what is left on the page where that is 1 to 3 bytes
 pub skip-cases : (s : List ℕ) {X : Type 0} → (length s % 1016 < 4 → skip s ≡ length s % 1016 → X) → (4 ≤ length s % 1016 → skip s ≡ 0 → X) → X
@@ -50,6 +51,15 @@ some-below : (low k : List ℕ) → T (bytesBelow low k) → 1 ≤ length k
 some-below [] [] h = absurd h
 some-below (x ∷ low) [] h = absurd h
 some-below low (y ∷ k) h = omega arith
+
+-- ---- a key and the last key met: the ways through `above`
+
+module _ {img : List ℕ} {l : Last} {at : Place} {n : ℕ} {o : Order} (c : Compared img (l .at) (l .length) at n o) where
+  pub is-above : o ≡ Less → IsAbove img l at n true
+  is-above e = record { is = λ low k u v. sym (so (bytesBelow low k) (less-below low k (sym (c .is low k u v) ∙ e))) }
+
+  pub not-above : (o ≡ Less → ⊥) → IsAbove img l at n false
+  not-above d = record { is = λ low k u v. sym (not-so (bytesBelow low k) (λ h. d (c .is low k u v ∙ below-less low k h))) }
 
 -- ---- one entry
 
@@ -94,22 +104,22 @@ module _ {img : List ℕ} {at : Place} {left : ℕ} {l : Last} (r : Ready img at
         unfolding keyOf
         entry-key = record { bytes = drop (skip (r .bytes) + 4) (r .bytes); rest = λ h. there; long = rw length-drop (omega (arith, g-is, r .long)); is = rw k-is }
 
-        pub entry-keys : Key img (l .at) (l .length) × Key img (z .after) (z .key)
-        entry-keys = (record { key = r .low; there = r .key }, record { key = keyOf (r .bytes); there = entry-key })
+        pub entry-keys : Met img l × Key img (z .after) (z .key)
+        entry-keys = (record { low = r .low; key = r .key }, record { key = keyOf (r .bytes); there = entry-key })
 
         pub entry-forward : Enough img (z .after) (z .key + z .value)
         entry-forward = record { bytes = drop (skip (r .bytes) + 4) (r .bytes); rest = there; long = rw length-drop (omega (arith, g-is, r .long)) }
 
-        module _ {a : Order} (c : Compared img (l .at) (l .length) (z .after) (z .key) a) where
-          a-is : a ≡ order (r .low) (keyOf (r .bytes))
+        module _ {a : Bool} (c : IsAbove img l (z .after) (z .key) a) where
+          a-is : a ≡ bytesBelow (r .low) (keyOf (r .bytes))
           a-is = c .is (r .low) (keyOf (r .bytes)) (r .key) entry-key
 
-          pub entry-not : {rule : Rule} → (a ≡ Less → ⊥) → Entering rule img at l 1 Bad
-          entry-not d = all-of 1 Bad (λ t hi x. d (a-is ∙ below-less (r .low) (keyOf (r .bytes)) (x .1 .0)))
+          pub entry-not : {rule : Rule} → a ≡ false → Entering rule img at l 1 Bad
+          entry-not e = all-of 1 Bad (λ t hi x. subst T (sym a-is ∙ e) (x .1 .0))
 
-          module _ (less : a ≡ Less) where
+          module _ (up : a ≡ true) where
             below : T (bytesBelow (r .low) (keyOf (r .bytes)))
-            below = less-below (r .low) (keyOf (r .bytes)) (sym a-is ∙ less)
+            below = subst T (sym up ∙ a-is) tt
 
             pub entry-some : 1 ≤ z .key
             entry-some = omega (arith, some-below (r .low) (keyOf (r .bytes)) below, key-length entry-key)

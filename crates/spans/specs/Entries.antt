@@ -21,8 +21,22 @@ use Rattle.spans.specs.Spans.{ruleOf, sized}
 abbrev pub fits : Rule → (k : List ℕ) (v : ℕ) → Bool
 fits rule k v = sized rule v && ruleOf rule .allowed k
 
+-- whether a key of n bytes may stand in the table
 pub record Allowed (rule : Rule) (img : List ℕ) (at : Place) (n v : ℕ) (r : Bool) : Type 0 where
   pub is : (k : List ℕ) → KeyAt img at n k → r ≡ fits rule k v
+
+-- k is the last key met
+abbrev pub LastIs : (img : List ℕ) → Last → (k : List ℕ) → Type 0
+LastIs img l k = KeyAt img (l .at) (l .length) k
+
+-- there is a last key
+pub record Met (img : List ℕ) (l : Last) : Type 0 where
+  pub low : List ℕ
+  pub key : LastIs img l low
+
+-- a key of n bytes is above the last key met
+pub record IsAbove (img : List ℕ) (l : Last) (at : Place) (n : ℕ) (r : Bool) : Type 0 where
+  pub is : (low k : List ℕ) → LastIs img l low → KeyAt img at n k → r ≡ bytesBelow low k
 
 -- keys rise strictly, from above k on
 abbrev pub Above : List ℕ → List Entry → Type 0
@@ -60,15 +74,6 @@ Run rule s low (suc n) t hi =
     (taken s ≤ length s) × (T (bytesBelow low (keyOf s)) × T (fits rule (keyOf s) (valueLength s))) × Run rule (drop (taken s) s) (keyOf s) n t hi
 
 -- ---- The walk
-
--- k is the last key met
-abbrev pub LastIs : (img : List ℕ) → Last → (k : List ℕ) → Type 0
-LastIs img l k = KeyAt img (l .at) (l .length) k
-
--- there is a last key
-pub record Met (img : List ℕ) (l : Last) : Type 0 where
-  pub low : List ℕ
-  pub key : LastIs img l low
 
 -- what is left, and the last key
 pub record Ready (img : List ℕ) (at : Place) (left : ℕ) (l : Last) : Type 0 where

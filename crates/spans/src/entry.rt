@@ -1,7 +1,7 @@
 // The entries of a span: lengths that fit, keys that rise, keys and values as the table's rule has them.
 ghost use Prim.Native.Nat.{_≤_};
 ghost use Rattle.entries.specs.Keys.{Key};
-ghost use Rattle.spans.specs.Entries.{Allowed, Ready, Entering};
+ghost use Rattle.spans.specs.Entries.{Met, IsAbove, Allowed, Ready, Entering};
 use crate::Rule;
 use entries::key::Order;
 use entries::key::compare_keys;
@@ -42,6 +42,21 @@ fn allowed(image: &[u8], at: Place, key: usize, value: usize, rule: Rule) -> boo
     }
 }
 
+// Whether a key is above the last key met.
+fn above(image: &[u8], last: Last, at: Place, key: usize) -> bool
+    requires { ⌜ Met (now image) last × Key (now image) at key ⌝ }
+    ensures { λ r. ⌜ IsAbove (now (image .entry)) last at key r ⌝ }
+{
+    let before = last.at;
+    let length = last.length;
+    let order = compare_keys(image, before, length, at, key);
+    match order {
+        Order::Less => true,
+        Order::Equal => false,
+        Order::Greater => false,
+    }
+}
+
 // Reads the entry that follows; `left` bytes are left up to the end of the span's pages.
 fn verify_entry(image: &[u8], at: Place, left: usize, last: Last, rule: Rule) -> Entered
     requires { ⌜ Ready (now image) at left last ⌝ }
@@ -60,11 +75,9 @@ fn verify_entry(image: &[u8], at: Place, left: usize, last: Last, rule: Rule) ->
     if left - skipped - 4 < both {
         return Entered::Bad;
     }
-    let before = last.at;
-    let before_length = last.length;
-    let Order::Less = compare_keys(image, before, before_length, start, key) else {
+    if !above(image, last, start, key) {
         return Entered::Bad;
-    };
+    }
     if !allowed(image, start, key, value, rule) {
         return Entered::Bad;
     }

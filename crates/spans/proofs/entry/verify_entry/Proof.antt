@@ -1,7 +1,5 @@
 -- `spans::entry::verify_entry` meets its contract: each way out has its law.
 use native.Mathlib.Omega.{arith}
-use mathlib.Core.List.{[], _∷_}
-use types.Run.{miss}
 use borrow.Author.Needs.{needs}
 use borrow.Author.Tests.{not-true, not-false}
 use Rattle.entries.proofs.Places.{gap-most}
@@ -23,47 +21,43 @@ returns-2 c =
     let d = c .before .before .before in
     entry-over (d .before .before .before .pre) (d .before .gap .ensures) (c .before .before .lengths .ensures) (d .if1 .left) (c .if2 .taken)
 
-compare-keys-requires : tie.Need-compare-keys-requires
-compare-keys-requires c κs =
-    let e = c .before in
-    let d = e .before .before .before in
-    entry-keys (d .before .before .before .pre) (d .before .gap .ensures) (e .before .before .lengths .ensures) (d .if1 .left) (e .if2 .left)
+above-requires : tie.Need-above-requires
+above-requires c κs =
+    let d = c .before .before .before in
+    entry-keys (d .before .before .before .pre) (d .before .gap .ensures) (c .before .before .lengths .ensures) (d .if1 .left) (c .if2 .left)
 
 returns-3 : tie.Need-returns-3
 returns-3 c =
-    let e = c .before .before .before in
+    let e = c .before .before in
     let d = e .before .before .before in
-    entry-not (d .before .before .before .pre) (d .before .gap .ensures) (e .before .before .lengths .ensures) (d .if1 .left) (e .if2 .left) (c .before .compare-keys .ensures)
-    (λ q. miss (1 ∷ 2 ∷ []) 0 tt (rw q at (c .match .keys2)))
+    entry-not (d .before .before .before .pre) (d .before .gap .ensures) (e .before .before .lengths .ensures) (d .if1 .left) (e .if2 .left) (c .before .above .ensures) (not-true _ (c .if3 .taken))
 
 allowed-requires : tie.Need-allowed-requires
 allowed-requires c κs =
-    let e = c .before .before .before .before in
+    let e = c .before .before in
     let d = e .before .before .before in
-    let k = entry-keys (d .before .before .before .pre) (d .before .gap .ensures) (e .before .before .lengths .ensures) (d .if1 .left) (e .if2 .left) in
-    let some = entry-some (d .before .before .before .pre) (d .before .gap .ensures) (e .before .before .lengths .ensures) (d .if1 .left) (e .if2 .left) (c .before .before .compare-keys .ensures)
-    (c .enum-told .given .1) in
-    (k .1, some, omega arith, omega arith)
+    let some = entry-some (d .before .before .before .pre) (d .before .gap .ensures) (e .before .before .lengths .ensures) (d .if1 .left) (e .if2 .left) (c .before .above .ensures) (not-false _ (c .if3 .left)) in
+    (entry-keys (d .before .before .before .pre) (d .before .gap .ensures) (e .before .before .lengths .ensures) (d .if1 .left) (e .if2 .left) .1, some, omega arith, omega arith)
 
 returns-4 : tie.Need-returns-4
 returns-4 c =
-    let e = c .before .before .before .before .before .before in
+    let e = c .before .before .before .before in
     let d = e .before .before .before in
-    entry-barred (d .before .before .before .pre) (d .before .gap .ensures) (e .before .before .lengths .ensures) (d .if1 .left) (e .if2 .left) (c .before .before .before .before .compare-keys .ensures)
-    (c .before .before .enum-told .given .1) (c .before .allowed .ensures) (not-true _ (c .if3 .taken))
+    entry-barred (d .before .before .before .pre) (d .before .gap .ensures) (e .before .before .lengths .ensures) (d .if1 .left) (e .if2 .left) (c .before .before .before .above .ensures) (not-false _ (c .before .before .if3 .left)) (c .before .allowed .ensures)
+    (not-true _ (c .if4 .taken))
 
 forward-requires : tie.Need-forward-requires
 forward-requires c κs =
-    let e = c .before .before .before .before .before .before in
+    let e = c .before .before .before .before in
     let d = e .before .before .before in
     entry-forward (d .before .before .before .pre) (d .before .gap .ensures) (e .before .before .lengths .ensures) (d .if1 .left) (e .if2 .left)
 
 returns-5 : tie.Need-returns-5
 returns-5 c =
-    let e = c .before .before .before .before .before .before .before in
+    let e = c .before .before .before .before .before in
     let d = e .before .before .before in
-    entry-done (d .before .before .before .pre) (d .before .gap .ensures) (e .before .before .lengths .ensures) (d .if1 .left) (e .if2 .left) (c .before .before .before .before .before .compare-keys .ensures)
-    (c .before .before .before .enum-told .given .1) (c .before .before .allowed .ensures) (not-false _ (c .before .if3 .left)) (c .forward .ensures)
+    entry-done (d .before .before .before .pre) (d .before .gap .ensures) (e .before .before .lengths .ensures) (d .if1 .left) (e .if2 .left) (c .before .before .before .before .above .ensures) (not-false _ (c .before .before .before .if3 .left)) (c .before .before .allowed .ensures)
+    (not-false _ (c .before .if4 .left)) (c .forward .ensures)
 
 pub verify-entry-spec : {M : Type 1} → statement M
 verify-entry-spec =
@@ -77,8 +71,7 @@ verify-entry-spec =
     (λ c. search needs)
     (λ c. search needs)
     returns-2
-    compare-keys-requires
-    (λ c. search needs)
+    above-requires
     returns-3
     allowed-requires
     returns-4
