@@ -1,8 +1,8 @@
 -- The ways through `number`, `copy_bytes` and `copy`.
 use Prim.Native.Nat.{ℕ, _+_, _*_, _-_, _≤_, _<_}
 use native.Mathlib.Omega.{arith}
-use mathlib.Core.Path.{_≡_, refl, ap, sym, _∙_}
-use mathlib.Core.List.{List, _++_}
+use mathlib.Core.Path.{_≡_, refl, ap, _∙_}
+use mathlib.Core.List.{List}
 use lib.ListN.{length, take, drop, set, getD, length-drop, length-set}
 use lib.Seq.{sets, sets-eq, length-sets, length-take-le, take-add, take-all, getD-drop}
 use Rattle.blockfile.specs.Bytes.{pg, be16, be32}

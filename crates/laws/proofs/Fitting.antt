@@ -130,7 +130,7 @@ others-low r t ok = every-so (λ (w : Tower). Within 1 (t .head .height) (w .hei
 
 -- ---- Counts
 
-many-entries : (z : ℕ) → z ≤ 128 → (ss : List Span) → Every (λ s. length (s .entries) ≤ z) ss → length (gather (λ s. s .entries) ss) ≤ 128 * length ss
+pub many-entries : (z : ℕ) → z ≤ 128 → (ss : List Span) → Every (λ s. length (s .entries) ≤ z) ss → length (gather (λ s. s .entries) ss) ≤ 128 * length ss
 many-entries z l [] h = omega arith
 many-entries z l (s ∷ ss) h = rw (length-append (s .entries) (gather (λ s. s .entries) ss)) (omega (arith, many-entries z l ss (h .1), h .0))
 

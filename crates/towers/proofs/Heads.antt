@@ -58,7 +58,7 @@ span-inside scr n z p (s ∷ ss) e f =
           (fresh-right scr (s .page ∷ s .conts) (gather pagesOf (map span (linkSpans z (s .page) ss))) f),
     )
 
-span-few : (z p : ℕ) (ss : List Span) → length ss ≤ length (gather pagesOf (map span (linkSpans z p ss)))
+pub span-few : (z p : ℕ) (ss : List Span) → length ss ≤ length (gather pagesOf (map span (linkSpans z p ss)))
 span-few z p [] = omega arith
 span-few z p (s ∷ ss) =
     let l : length ss ≤ length (gather pagesOf (map span (linkSpans z (s .page) ss))) = span-few z (s .page) ss in

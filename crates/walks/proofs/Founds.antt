@@ -16,7 +16,6 @@ use Rattle.blockfile.proofs.Every.{every-left, every-right, every-join}
 use Rattle.blockfile.proofs.Owned.{ownedBy, owned-append}
 use Rattle.pages.specs.Begins.{begins}
 use Rattle.pages.specs.Claims.{claimable, claimed}
-use Rattle.walks.specs.declared.Walked.{Walked}
 use Rattle.walks.specs.declared.Walked.the-variants.{Refused, Done}
 use Rattle.walks.specs.Found.{Open, Fresh, claims, zeros, Found, Decides, FindsAt}
 

@@ -1,0 +1,337 @@
+-- The ways through `seek` and the functions on one span.
+use Prim.Native.Nat.{ℕ, _+_, _-_, _≤_}
+use native.Mathlib.Omega.{arith}
+use mathlib.Core.Path.{_≡_, refl, ap, sym, _∙_, subst}
+use mathlib.Core.Bool.{Bool, true, false, _||_}
+use mathlib.Core.List.{List, [], _∷_}
+use mathlib.Core.Option.{Option, none, some}
+use lib.ListN.{length}
+use lib.Dec.{T}
+use Rattle.blockfile.specs.Bytes.{pg, be16, Every}
+use Rattle.blockfile.specs.Layout.{Entry}
+use Rattle.blockfile.specs.Order.{KeyRule, bytesBelow, same, Rising, find, above}
+use Rattle.blockfile.proofs.Bools.{so, not-so, same-refl}
+use Rattle.blockfile.proofs.Every.{every-so}
+use Rattle.laws.proofs.Orders.{Ordered}
+use Rattle.laws.proofs.Maps.{find-low}
+use Rattle.laws.proofs.Middle.{under-differs, under-not-over}
+use Rattle.pages.specs.Places.{Inside}
+use Rattle.entries.specs.declared.key.Order.{Order}
+use Rattle.entries.specs.declared.key.Order.the-variants.{Less, Equal, Greater}
+use Rattle.entries.specs.declared.place.Place.{Place}
+use Rattle.entries.specs.declared.place.Sizes.{Sizes}
+use Rattle.entries.specs.Places.{Moved, Measured}
+use Rattle.entries.specs.Keys.{order, ComparedTo}
+use Rattle.search.specs.declared.span.Sought.{Sought}
+use Rattle.search.specs.declared.span.Sought.the-variants.{Found, Missing}
+use Rattle.search.specs.declared.span.Stop.{Stop}
+use Rattle.search.specs.declared.span.Stop.the-variants.{Here, Above, End}
+use Rattle.search.specs.Spans.{Bytewise, SpanOn, BytesAt, Along, EntryThere, EntryAt, Answered, Met, Passed, Stopped, over, KeyOf}
+use Rattle.search.proofs.Rules.{bytewise-ordered, less-under, equal-is, greater-over}
+use Rattle.search.proofs.Entries.{bytes-key, along-entry, span-along}
+
+-- ---- Answers
+
+pub answer-found : {img : List ℕ} {o : Option (List ℕ)} {at : Place} {n : ℕ} (v : List ℕ) → o ≡ some v → BytesAt img at n v → Answered img o (Found at n)
+answer-found {img} {o} {at} {n} v e b =
+    record {
+      found = λ p m q. (v, e, let x : at ≡ p = cc in let y : n ≡ m = cc in subst (λ (i : ℕ). BytesAt img p i v) y (subst (λ (i : Place). BytesAt img i n v) x b));
+      missing = λ q. absurd (let z : _≡_ {A = ℕ} 0 1 = cc in omega arith);
+    }
+
+pub answer-none : {img : List ℕ} {o : Option (List ℕ)} → o ≡ none → Answered img o Missing
+answer-none e = record { found = λ p m q. absurd (let z : _≡_ {A = ℕ} 0 1 = cc in omega arith); missing = λ q. e }
+
+pub answer-as : {img : List ℕ} {o u : Option (List ℕ)} {r : Sought} → u ≡ o → Answered img o r → Answered img u r
+answer-as {img} {r = r} e a = subst (λ (x : Option (List ℕ)). Answered img x r) (sym e) a
+
+stop-here : {img : List ℕ} {r : KeyRule} {k : List ℕ} {es : List Entry} {g : Sizes} {left : ℕ} → Met img r k es g left → Stopped img r k es (Here g left)
+stop-here {img} {r} {k} {es} {g} {left} m =
+    record {
+      met = λ h n q. let x : g ≡ h = cc in let y : left ≡ n = cc in subst (λ (i : ℕ). Met img r k es h i) y (subst (λ (i : Sizes). Met img r k es i left) x m);
+      passed = λ h q. absurd (let z : _≡_ {A = ℕ} 0 1 = cc in omega arith);
+      end = λ q. absurd (let z : _≡_ {A = ℕ} 0 1 = cc in omega arith);
+    }
+
+stop-above : {img : List ℕ} {r : KeyRule} {k : List ℕ} {es : List Entry} {g : Sizes} → Passed img r k es g → Stopped img r k es (Above g)
+stop-above {img} {r} {k} {es} {g} m =
+    record {
+      met = λ h n q. absurd (let z : _≡_ {A = ℕ} 0 1 = cc in omega arith);
+      passed = λ h q. let x : g ≡ h = cc in subst (λ (i : Sizes). Passed img r k es i) x m;
+      end = λ q. absurd (let z : _≡_ {A = ℕ} 0 1 = cc in omega arith);
+    }
+
+stop-end : {img : List ℕ} {r : KeyRule} {k : List ℕ} {es : List Entry} → find k es ≡ none → above r k es ≡ none → Stopped img r k es End
+stop-end e f =
+    record {
+      met = λ h n q. absurd (let z : _≡_ {A = ℕ} 0 1 = cc in omega arith);
+      passed = λ h q. absurd (let z : _≡_ {A = ℕ} 0 1 = cc in omega arith);
+      end = λ q. (e, f);
+    }
+
+-- ---- The first of rising entries against the key
+
+module _ (r : KeyRule) (w : Bytewise r) (k : List ℕ) (e : Entry) (es : List Entry) where
+  o : Ordered r
+  o = bytewise-ordered r w
+
+  -- nothing is below the empty key
+  some-below : (j l : List ℕ) → T (bytesBelow j l) → same l [] ≡ false
+  some-below [] [] t = absurd t
+  some-below (x ∷ j) [] t = absurd t
+  some-below j (y ∷ l) t = refl
+
+  -- a key that is allowed is not empty
+  some-key : (j : List ℕ) → 1 ≤ length j → same j [] ≡ false
+  some-key [] h = absurd (omega arith)
+  some-key (x ∷ j) h = refl
+
+  or-true : (a b : Bool) → T b → a || b ≡ true
+  or-true true b t = refl
+  or-true false b t = so b t
+
+  module _ (u : T (r .below (e .key) k)) where
+    find-on : find k (e ∷ es) ≡ find k es
+    find-on = rw (under-differs r o k (e .key) u)
+
+    above-on : above r k (e ∷ es) ≡ above r k es
+    above-on = rw (some-below (e .key) k (subst T (w .below (e .key) k) u), under-not-over r o k (e .key) u)
+
+  module _ (v : T (r .below k (e .key))) (h : Rising r (e ∷ es)) where
+    find-over : find k (e ∷ es) ≡ none
+    find-over = find-low r o k (e ∷ es) (v, every-so (λ (y : Entry). T (r .below (e .key) (y .key))) (λ y. o .trans k (e .key) (y .key) v) es (h .0))
+
+    above-over : above r k (e ∷ es) ≡ some (e .key)
+    above-over = rw (or-true (same k []) (r .below k (e .key)) v)
+
+  module _ (q : e .key ≡ k) (a : T (r .allowed (e .key))) (h : Rising r (e ∷ es)) where
+    find-same : find k (e ∷ es) ≡ some (e .value)
+    find-same = rw (so (same k (e .key)) (subst (λ (j : List ℕ). T (same k j)) (sym q) (same-refl k)))
+
+    -- all that follow are above the key
+    above-more : (fs : List Entry) → Every (λ y. T (r .below (e .key) (y .key))) fs → above r k fs ≡ above r [] fs
+    above-more [] t = refl
+    above-more (y ∷ fs) t = rw (or-true (same k []) (r .below k (y .key)) (subst (λ (j : List ℕ). T (r .below j (y .key))) q (t .0)))
+
+    above-same : above r k (e ∷ es) ≡ above r [] es
+    above-same =
+        let a1 : same k [] ≡ false = subst (λ (j : List ℕ). same j [] ≡ false) q (some-key (e .key) (w .some (e .key) a)) in
+        let a2 : r .below k (e .key) ≡ false = not-so (r .below k (e .key)) (λ t. o .irrefl k (subst (λ (j : List ℕ). T (r .below k j)) q t)) in
+        rw (a1, a2) (above-more es (h .0))
+
+-- ---- Rising entries from a place on
+
+pub record Ahead (img : List ℕ) (r : KeyRule) (at : Place) (es : List Entry) : Type 0 where
+  pub along : Along img at es
+  pub keys : Every (λ e. T (r .allowed (e .key))) es
+  pub rising : Rising r es
+
+module _ {img : List ℕ} {page : ℕ} (x : SpanOn img page) where
+  pub span-ahead : Ahead img (x .rule) (record { page = page; offset = 20 }) (x .linked .span .entries)
+  span-ahead =
+      record {
+        along = subst (λ (p : ℕ). Along img (record { page = p; offset = 20 }) (x .linked .span .entries)) (x .at) (span-along (x .there));
+        keys = x .there .keys;
+        rising = x .there .rising;
+      }
+
+  pub span-size : be16 (pg img page) 18 ≡ length (x .linked .span .entries)
+  span-size = subst (λ (p : ℕ). be16 (pg img p) 18 ≡ length (x .linked .span .entries)) (x .at) (x .there .borne .0 .size)
+
+  pub span-inside : (o n : ℕ) → o + n ≤ 1024 → Inside img page o n
+  span-inside o n h =
+      subst (λ (p : ℕ). Inside img p o n) (x .at) (record { small = x .there .small; low = x .there .borne .1 .0 .low; high = x .there .borne .1 .0 .high; fits = h })
+
+-- ---- seek: the entries from the place on are left, and find and above go on in them
+
+pub record Seeking (img : List ℕ) (r : KeyRule) (k : List ℕ) (es : List Entry) (at : Place) (left : ℕ) : Type 0 where
+  pub rest : List Entry
+  pub ahead : Ahead img r at rest
+  pub count : left ≡ length rest
+  pub same : find k es ≡ find k rest
+  pub next : above r k es ≡ above r k rest
+
+-- with the first of them
+pub record Opened (img : List ℕ) (r : KeyRule) (k : List ℕ) (es : List Entry) (at : Place) (left : ℕ) : Type 0 where
+  pub first : Entry
+  pub more : List Entry
+  pub ahead : Ahead img r at (first ∷ more)
+  pub count : left ≡ 1 + length more
+  pub same : find k es ≡ find k (first ∷ more)
+  pub next : above r k es ≡ above r k (first ∷ more)
+
+pub seeking-start : {img : List ℕ} {page : ℕ} (k : List ℕ) (left : ℕ) → left ≡ be16 (pg img page) 18 → (x : SpanOn img page)
+    → Seeking img (x .rule) k (x .linked .span .entries) (record { page = page; offset = 20 }) left
+seeking-start k left e x = record { rest = x .linked .span .entries; ahead = span-ahead x; count = e ∙ span-size x; same = refl; next = refl }
+
+module _ {img : List ℕ} {r : KeyRule} {k : List ℕ} {es : List Entry} {at : Place} {left : ℕ} (s : Seeking img r k es at left) where
+  pub seeking-end : left ≡ 0 → Stopped img r k es End
+  seeking-end z = go (s .rest) (s .count) (s .same) (s .next)
+    where
+      go : (rest : List Entry) → left ≡ length rest → find k es ≡ find k rest → above r k es ≡ above r k rest → Stopped img r k es End
+      go [] c f n = stop-end f n
+      go (e ∷ rest) c f n = absurd (omega arith)
+
+  pub seeking-open : (left ≡ 0 → ⊥) → Opened img r k es at left
+  seeking-open z = go (s .rest) (s .ahead) (s .count) (s .same) (s .next)
+    where
+      go : (rest : List Entry) → Ahead img r at rest → left ≡ length rest → find k es ≡ find k rest → above r k es ≡ above r k rest → Opened img r k es at left
+      go [] a c f n = absurd (z c)
+      go (e ∷ rest) a c f n = record { first = e; more = rest; ahead = a; count = omega arith; same = f; next = n }
+
+module _ {img : List ℕ} {r : KeyRule} {k : List ℕ} {es : List Entry} {at : Place} {left : ℕ} (s : Opened img r k es at left) (g : Sizes) (m : Measured img at g) where
+  pub opened-entry : EntryAt img g (s .first) (s .more)
+  opened-entry = along-entry (s .ahead .along) g m
+
+  module _ (w : Bytewise r) (a : Order) (c : ComparedTo img (g .after) (g .key) k a) where
+    compared : a ≡ order (s .first .key) k
+    compared = c .is (s .first .key) (bytes-key (opened-entry .key))
+
+    pub seeking-next : a ≡ Less → (p : Place) → Moved img (g .after) (g .key + g .value) p → Seeking img r k es p (left - 1)
+    seeking-next e p t =
+        let u : T (r .below (s .first .key) k) = less-under r w (s .first .key) k (sym compared ∙ e) in
+        record {
+          rest = s .more;
+          ahead = record { along = opened-entry .next p t; keys = s .ahead .keys .1; rising = s .ahead .rising .1 };
+          count = omega (arith, s .count);
+          same = s .same ∙ find-on r w k (s .first) (s .more) u;
+          next = s .next ∙ above-on r w k (s .first) (s .more) u;
+        }
+
+    pub seeking-here : a ≡ Equal → Stopped img r k es (Here g left)
+    seeking-here e =
+        let q : s .first .key ≡ k = equal-is r w (s .first .key) k (sym compared ∙ e) in
+        stop-here
+        (record {
+          entry = s .first;
+          more = s .more;
+          at = opened-entry;
+          count = s .count;
+          found = s .same ∙ find-same r w k (s .first) (s .more) q (s .ahead .keys .0) (s .ahead .rising);
+          next = s .next ∙ above-same r w k (s .first) (s .more) q (s .ahead .keys .0) (s .ahead .rising);
+        })
+
+    pub seeking-above : a ≡ Greater → Stopped img r k es (Above g)
+    seeking-above e =
+        let v : T (r .below k (s .first .key)) = greater-over r w (s .first .key) k (sym compared ∙ e) in
+        stop-above
+        (record {
+          entry = s .first;
+          more = s .more;
+          at = opened-entry;
+          found = s .same ∙ find-over r w k (s .first) (s .more) v (s .ahead .rising);
+          next = s .next ∙ above-over r w k (s .first) (s .more) v (s .ahead .rising);
+        })
+
+-- ---- find_entry and key_above, from where seek stopped
+
+module _ {img : List ℕ} {r : KeyRule} {k : List ℕ} {es : List Entry} {s : Stop} (h : Stopped img r k es s) where
+  pub found-here : (g : Sizes) (left : ℕ) → s ≡ Here g left → (p : Place) → Moved img (g .after) (g .key) p → Answered img (find k es) (Found p (g .value))
+  found-here g left e p t = let m : Met img r k es g left = h .met g left e in answer-found (m .entry .value) (m .found) (m .at .value p t)
+
+  pub found-above : (g : Sizes) → s ≡ Above g → Answered img (find k es) Missing
+  found-above g e = answer-none (h .passed g e .found)
+
+  pub found-end : s ≡ End → Answered img (find k es) Missing
+  found-end e = answer-none (h .end e .0)
+
+  pub next-above : (g : Sizes) → s ≡ Above g → Answered img (above r k es) (Found (g .after) (g .key))
+  next-above g e = let m : Passed img r k es g = h .passed g e in answer-found (m .entry .key) (m .next) (m .at .key)
+
+  pub next-end : s ≡ End → Answered img (above r k es) Missing
+  next-end e = answer-none (h .end e .1)
+
+  module _ (g : Sizes) (left : ℕ) (e : s ≡ Here g left) where
+    met : Met img r k es g left
+    met = h .met g left e
+
+    pub next-last : left ≡ 1 → Answered img (above r k es) Missing
+    next-last l = go (met .more) (met .count) (met .next)
+      where
+        go : (more : List Entry) → left ≡ 1 + length more → above r k es ≡ above r [] more → Answered img (above r k es) Missing
+        go [] c n = answer-none n
+        go (y ∷ more) c n = absurd (omega arith)
+
+    -- the entry after it
+    record After (p : Place) : Type 0 where
+      there : EntryThere img p
+      next : above r k es ≡ some (there .first .key)
+
+    after : (left ≡ 1 → ⊥) → (p : Place) → Moved img (g .after) (g .key + g .value) p → After p
+    after l p t = go (met .more) (met .count) (met .next) (met .at .next p t)
+      where
+        go : (more : List Entry) → left ≡ 1 + length more → above r k es ≡ above r [] more → Along img p more → After p
+        go [] c n a = absurd (l (omega arith))
+        go (y ∷ more) c n a = record { there = record { first = y; more = more; along = a }; next = n }
+
+    module _ (l : left ≡ 1 → ⊥) (p : Place) (t : Moved img (g .after) (g .key + g .value) p) where
+      pub next-there : EntryThere img p
+      next-there = after l p t .there
+
+      pub next-is : (a : Sought) → KeyOf img p a → Answered img (above r k es) a
+      unfolding after next-there
+      next-is a q = answer-as (after l p t .next) (q .is next-there)
+
+-- ---- key_of
+
+pub key-of-is : {img : List ℕ} {at : Place} (g : Sizes) → Measured img at g → KeyOf img at (Found (g .after) (g .key))
+key-of-is g m = record { is = λ x. answer-found (x .first .key) refl (along-entry (x .along) g m .key) }
+
+-- ---- begins_above
+
+pub record First (es : List Entry) : Type 0 where
+  pub first : Entry
+  pub more : List Entry
+  pub is : es ≡ first ∷ more
+
+first-of : (es : List Entry) → (length es ≡ 0 → ⊥) → First es
+first-of [] z = absurd (z refl)
+first-of (e ∷ es) z = record { first = e; more = es; is = refl }
+
+over-empty : (r : KeyRule) (k : List ℕ) (es : List Entry) → length es ≡ 0 → false ≡ over r k es
+over-empty r k [] z = refl
+over-empty r k (e ∷ es) z = absurd (omega arith)
+
+module _ {img : List ℕ} {page : ℕ} (x : SpanOn img page) where
+  pub begins-none : (k : List ℕ) (n : ℕ) → n ≡ be16 (pg img page) 18 → n ≡ 0 → false ≡ over (x .rule) k (x .linked .span .entries)
+  begins-none k n e z = over-empty (x .rule) k (x .linked .span .entries) (sym (span-size x) ∙ sym e ∙ z)
+
+  module _ (z : length (x .linked .span .entries) ≡ 0 → ⊥) where
+    opening : First (x .linked .span .entries)
+    opening = first-of (x .linked .span .entries) z
+
+    -- the first entry of a span that is not empty
+    pub span-entry : EntryThere img (record { page = page; offset = 20 })
+    span-entry =
+        record {
+          first = opening .first;
+          more = opening .more;
+          along = subst (Along img (record { page = page; offset = 20 })) (opening .is) (span-ahead x .along);
+        }
+
+    pub span-first : above (x .rule) [] (x .linked .span .entries) ≡ some (span-entry .first .key)
+    unfolding span-entry opening
+    span-first = ap (above (x .rule) []) (opening .is)
+
+    module _ (k : List ℕ) (g : Sizes) (m : Measured img (record { page = page; offset = 20 }) g) (a : Order) (c : ComparedTo img (g .after) (g .key) k a) where
+      abbrev j : List ℕ
+      j = opening .first .key
+
+      compared-first : a ≡ order j k
+      unfolding span-entry
+      compared-first = c .is j (bytes-key (along-entry (span-entry .along) g m .key))
+
+      over-first : over (x .rule) k (x .linked .span .entries) ≡ x .rule .below k j
+      over-first = ap (over (x .rule) k) (opening .is)
+
+      pub begins-greater : a ≡ Greater → true ≡ over (x .rule) k (x .linked .span .entries)
+      begins-greater e = sym (over-first ∙ so (x .rule .below k j) (greater-over (x .rule) (x .there .order) j k (sym compared-first ∙ e)))
+
+      pub begins-less : a ≡ Less → false ≡ over (x .rule) k (x .linked .span .entries)
+      begins-less e =
+          sym (over-first ∙ under-not-over (x .rule) (bytewise-ordered (x .rule) (x .there .order)) k j (less-under (x .rule) (x .there .order) j k (sym compared-first ∙ e)))
+
+      pub begins-equal : a ≡ Equal → false ≡ over (x .rule) k (x .linked .span .entries)
+      begins-equal e =
+          let q : j ≡ k = equal-is (x .rule) (x .there .order) j k (sym compared-first ∙ e) in
+          sym (over-first ∙ not-so (x .rule .below k j) (λ t. bytewise-ordered (x .rule) (x .there .order) .irrefl k (subst (λ (i : List ℕ). T (x .rule .below k i)) q t)))

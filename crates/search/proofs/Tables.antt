@@ -1,0 +1,251 @@
+-- The ways through `find_span` and `find`: a table's spans in their order.
+use Prim.Native.Nat.{ℕ, zero, suc, _+_, _-_, _≤_, _<_}
+use native.Mathlib.Omega.{arith}
+use mathlib.Core.Path.{_≡_, refl, ap, sym, _∙_, subst}
+use mathlib.Core.Bool.{Bool, true, false, cond, not}
+use mathlib.Core.List.{List, [], _∷_, _++_, map}
+use lib.ListN.{length, getD, take, drop, length-map, take-append-drop, drop-of-length-le}
+use lib.Seq.{drop-cons}
+use lib.Dec.{T}
+use Rattle.blockfile.specs.Bytes.{pg, be32, Every, gather, firstOf}
+use Rattle.blockfile.specs.Layout.{Entry, Span, Table, columns, spansOf, entriesOf, reached}
+use Rattle.blockfile.specs.Order.{KeyRule, Rising, find, above}
+use Rattle.blockfile.specs.Fields.{LinkedSpan}
+use Rattle.blockfile.specs.WellFormed.{span, tower, linkSpans, spansIn, towersIn}
+use Rattle.blockfile.specs.Put.{begins, lastPlace, target, spanAt}
+use Rattle.blockfile.proofs.Bools.{holds, so}
+use Rattle.blockfile.proofs.Every.{every-left, every-right, every-so, every-unmap}
+use Rattle.laws.proofs.Orders.{Ordered}
+use Rattle.laws.proofs.Middle.{AllOver, rising-left, rising-right}
+use Rattle.laws.proofs.Places.{gather-append, every-at, entriesBefore, entriesAfter, place-entries}
+use Rattle.laws.proofs.Targets.{Target, target-is, find-at}
+use Rattle.pages.specs.Places.{Inside}
+use Rattle.entries.specs.Places.{IsPage}
+use Rattle.search.specs.declared.span.Sought.{Sought}
+use Rattle.search.specs.Spans.{Borne, SpanOn, EntryThere, Answered, over, OverOn, FoundOn, AboveOn, KeyOf}
+use Rattle.search.specs.Tables.{Reading, TargetIn}
+use Rattle.search.proofs.Rules.{bytewise-ordered}
+use Rattle.search.proofs.Seeks.{answer-as, span-entry, span-first}
+
+-- ---- The span at a place of a table
+
+-- with its links
+abbrev pub linkedAt : Table → (prev i : ℕ) → LinkedSpan
+linkedAt t q i = record { span = spanAt t i; prev = q; next = firstOf (map (λ s. s .page) (drop (suc i) (spansOf (columns t)))); maxKeys = t .spanSize }
+
+linked-at : (R : LinkedSpan → Type 0) (z p : ℕ) (ss : List Span) (d : Span) (i : ℕ) → i < length ss → Every R (linkSpans z p ss)
+    → (q : ℕ) × R (record { span = getD ss i d; prev = q; next = firstOf (map (λ s. s .page) (drop (suc i) ss)); maxKeys = z })
+linked-at R z p [] d i l h = absurd (omega arith)
+linked-at R z p (s ∷ ss) d zero l h = (p, h .0)
+linked-at R z p (s ∷ ss) d (suc i) l h = linked-at R z (s .page) ss d i (omega arith) (h .1)
+
+module _ {img : List ℕ} {root : ℕ} (t : Reading img root) where
+  abbrev pub spansHere : List Span
+  spansHere = spansOf (columns (t .table))
+
+  pub reading-inside : (o n : ℕ) → o + n ≤ 1024 → Inside img root o n
+  reading-inside o n h =
+      let p : IsPage img (t .table .root) = t .readable .borne .0 .1 .0 in
+      subst (λ (p : ℕ). Inside img p o n) (t .root) (record { small = t .readable .small; low = p .low; high = p .high; fits = h })
+
+  pub reading-first : be32 (pg img root) 8 ≡ t .table .first .page
+  reading-first = subst (λ (p : ℕ). be32 (pg img p) 8 ≡ t .table .first .page) (t .root) (t .readable .borne .0 .0 .first)
+
+  pub reading-spans : be32 (pg img root) 20 ≡ length (columns (t .table))
+  reading-spans = subst (λ (p : ℕ). be32 (pg img p) 20 ≡ length (columns (t .table))) (t .root) (t .readable .borne .0 .0 .spans)
+
+  pub ordered : Ordered (t .rule)
+  ordered = bytewise-ordered (t .rule) (t .readable .order)
+
+  pub length-spans : length spansHere ≡ length (columns (t .table))
+  length-spans = length-map (columns (t .table)) (λ c. c .span)
+
+  module _ (i : ℕ) (l : i < length (columns (t .table))) where
+    linked-there : (q : ℕ) × Borne img (span (linkedAt (t .table) q i))
+    unfolding spanAt
+    linked-there =
+        linked-at (λ x. Borne img (span x)) (t .table .spanSize) 0 spansHere (t .table .first) i (omega (arith, length-spans))
+        (every-unmap (Borne img) span (spansIn (t .table)) (every-left (Borne img) (map span (spansIn (t .table))) (map tower (towersIn (t .table))) (t .readable .borne .1)))
+
+    reach-at : 1 + length (spanAt (t .table) i .conts) ≡ reached (spanAt (t .table) i .entries)
+    unfolding spanAt
+    reach-at = every-at (λ (s : Span). 1 + length (s .conts) ≡ reached (s .entries)) i (t .table .first) spansHere (omega (arith, length-spans)) (t .readable .ok .reach)
+
+    module _ (page : ℕ) (e : page ≡ spanAt (t .table) i .page) where
+      pub reading-span : SpanOn img page
+      reading-span =
+          let es : List Entry = spanAt (t .table) i .entries in
+          let split : entriesOf (t .table) ≡ entriesBefore (t .table) i ++ (es ++ entriesAfter (t .table) i) = place-entries (t .table) i l in
+          record {
+            rule = t .rule;
+            linked = linkedAt (t .table) (linked-there .0) i;
+            there = record {
+              small = t .readable .small;
+              borne = linked-there .1;
+              reach = reach-at;
+              keys = every-left (λ (e : Entry). T (t .rule .allowed (e .key))) es (entriesAfter (t .table) i)
+                  (every-right (λ (e : Entry). T (t .rule .allowed (e .key))) (entriesBefore (t .table) i) (es ++ entriesAfter (t .table) i)
+                  (subst (Every (λ (e : Entry). T (t .rule .allowed (e .key)))) split (t .readable .ok .keys)));
+              rising = rising-left (t .rule) es (entriesAfter (t .table) i)
+                  (rising-right (t .rule) (entriesBefore (t .table) i) (es ++ entriesAfter (t .table) i) (subst (Rising (t .rule)) split (t .readable .ok .rising)));
+              order = t .readable .order;
+            };
+            at = sym e;
+          }
+
+      -- what is said of every span on the page is said of this one
+      pub over-at : (k : List ℕ) (b : Bool) → OverOn img page k b → b ≡ over (t .rule) k (spanAt (t .table) i .entries)
+      unfolding reading-span
+      over-at k b o = o .is reading-span
+
+      pub found-at : (k : List ℕ) (a : Sought) → FoundOn img page k a → Answered img (find k (spanAt (t .table) i .entries)) a
+      unfolding reading-span
+      found-at k a f = f .is reading-span
+
+      pub above-on : (k : List ℕ) (a : Sought) → AboveOn img page k a → Answered img (above (t .rule) k (spanAt (t .table) i .entries)) a
+      unfolding reading-span
+      above-on k a f = f .is reading-span
+
+      pub next-at : be32 (pg img page) 12 ≡ firstOf (map (λ s. s .page) (drop (suc i) spansHere))
+      unfolding reading-span
+      next-at = subst (λ (p : ℕ). be32 (pg img p) 12 ≡ firstOf (map (λ s. s .page) (drop (suc i) spansHere))) (sym e) (reading-span .there .borne .0 .next)
+
+      module _ (z : length (spanAt (t .table) i .entries) ≡ 0 → ⊥) where
+        pub first-there : EntryThere img (record { page = page; offset = 20 })
+        unfolding reading-span
+        first-there = span-entry reading-span z
+
+        pub first-at : (a : Sought) → KeyOf img (record { page = page; offset = 20 }) a → Answered img (above (t .rule) [] (spanAt (t .table) i .entries)) a
+        unfolding reading-span first-there
+        first-at a f = answer-as (span-first reading-span z) (f .is first-there)
+
+  -- only the first span may be empty
+  pub only-first : (i : ℕ) → i < length (columns (t .table)) → length (spanAt (t .table) i .entries) ≡ 0 → i ≡ 0
+  unfolding spanAt
+  only-first zero l n = refl
+  only-first (suc i) l n =
+      absurd (omega (arith, n, every-at (λ (s : Span). 1 ≤ length (s .entries)) i (t .table .first) (spansOf (t .table .rest)) (omega (arith, length-spans)) (t .readable .ok .filled)))
+
+-- ---- Spans that begin above the key
+
+module _ (r : KeyRule) (k : List ℕ) where
+  over-begins : (es : List Entry) → T (over r k es) → begins r k es ≡ false
+  over-begins [] h = refl
+  over-begins (e ∷ es) h = ap not (so (r .below k (e .key)) h)
+
+  -- a span that is not above the key is the target so far: only at place 0 it may be empty
+  not-over : (es : List Entry) (i : ℕ) → over r k es ≡ false → (length es ≡ 0 → i ≡ 0) → cond (begins r k es) i (i - 1) ≡ i
+  not-over [] i h z = let e : i ≡ 0 = z refl in omega arith
+  not-over (e ∷ es) i h z = rw h
+
+  pub all-begin : (ss : List Span) → AllOver r k (gather (λ s. s .entries) ss) → Every (λ s. begins r k (s .entries) ≡ false) ss
+  all-begin [] h = tt
+  all-begin (s ∷ ss) h = (
+    go (s .entries) (every-left (λ (y : Entry). T (r .below k (y .key))) (s .entries) (gather (λ s. s .entries) ss) h),
+    all-begin ss (every-right (λ (y : Entry). T (r .below k (y .key))) (s .entries) (gather (λ s. s .entries) ss) h),
+  )
+    where
+      go : (es : List Entry) → AllOver r k es → begins r k es ≡ false
+      go [] h = refl
+      go (e ∷ es) h = over-begins (e ∷ es) (h .0)
+
+  pub none-later : (found i : ℕ) (ss : List Span) → Every (λ s. begins r k (s .entries) ≡ false) ss → lastPlace r k found i ss ≡ found
+  none-later found i [] h = refl
+  none-later found i (s ∷ ss) h = rw (h .0) (none-later found (suc i) ss (h .1))
+
+  all-over : Ordered r → (es fs : List Entry) → T (over r k es) → Rising r (es ++ fs) → AllOver r k (es ++ fs)
+  all-over o [] fs t h = absurd t
+  all-over o (e ∷ es) fs t h = (t, every-so (λ (y : Entry). T (r .below (e .key) (y .key))) (λ y. o .trans k (e .key) (y .key) t) (es ++ fs) (h .0))
+
+-- ---- find_span: the spans from the place on are left
+
+pub record Walking {img : List ℕ} {root : ℕ} (t : Reading img root) (k : List ℕ) (page left found : ℕ) : Type 0 where
+  pub place : ℕ
+  pub count : place + left ≡ length (columns (t .table))
+  pub here : page ≡ firstOf (map (λ s. s .page) (drop place (spansOf (columns (t .table)))))
+  pub last : found ≡ spanAt (t .table) (place - 1) .page
+  pub rest : target (t .rule) k (t .table) ≡ lastPlace (t .rule) k (place - 1) place (drop place (spansOf (columns (t .table))))
+
+pub walking-start : {img : List ℕ} {root : ℕ} (k : List ℕ) (page left : ℕ) → page ≡ be32 (pg img root) 8 → left ≡ be32 (pg img root) 20 → (t : Reading img root)
+    → Walking t k page left page
+unfolding target spanAt
+walking-start k page left e f t =
+    record { place = 0; count = omega (arith, f, reading-spans t); here = e ∙ reading-first t; last = e ∙ reading-first t; rest = refl }
+
+module _ {img : List ℕ} {root : ℕ} {t : Reading img root} {k : List ℕ} {page left found : ℕ} (w : Walking t k page left found) where
+  pub walking-end : left ≡ 0 → found ≡ spanAt (t .table) (target (t .rule) k (t .table)) .page
+  walking-end z =
+      let none : drop (w .place) (spansHere t) ≡ [] = drop-of-length-le (spansHere t) {i = w .place} (omega (arith, w .count, length-spans t)) in
+      let is : target (t .rule) k (t .table) ≡ w .place - 1 = rw none at (w .rest) in
+      w .last ∙ ap (λ (i : ℕ). spanAt (t .table) i .page) (sym is)
+
+  module _ (z : left ≡ 0 → ⊥) where
+    within : w .place < length (columns (t .table))
+    within = omega (arith, w .count, z)
+
+    first-here : drop (w .place) (spansHere t) ≡ spanAt (t .table) (w .place) ∷ drop (suc (w .place)) (spansHere t)
+    unfolding spanAt
+    first-here = drop-cons (spansHere t) (w .place) (t .table .first) (omega (arith, within, length-spans t))
+
+    page-here : page ≡ spanAt (t .table) (w .place) .page
+    page-here = w .here ∙ ap (λ (ss : List Span). firstOf (map (λ s. s .page) ss)) first-here
+
+    pub walking-span : SpanOn img page
+    walking-span = reading-span t (w .place) within page page-here
+
+    rest-here : target (t .rule) k (t .table)
+        ≡ lastPlace (t .rule) k (cond (begins (t .rule) k (spanAt (t .table) (w .place) .entries)) (w .place) (w .place - 1)) (suc (w .place)) (drop (suc (w .place)) (spansHere t))
+    rest-here = rw first-here at (w .rest)
+
+    rising-here : Rising (t .rule) (spanAt (t .table) (w .place) .entries ++ gather (λ s. s .entries) (drop (suc (w .place)) (spansHere t)))
+    rising-here =
+        let ss : List Span = spansHere t in
+        subst (λ (l : List Span). Rising (t .rule) (gather (λ s. s .entries) l)) first-here
+        (rising-right (t .rule) (gather (λ s. s .entries) (take (w .place) ss)) (gather (λ s. s .entries) (drop (w .place) ss))
+        (subst (Rising (t .rule)) (ap (gather (λ s. s .entries)) (sym (take-append-drop (w .place) ss)) ∙ gather-append (λ s. s .entries) (take (w .place) ss) (drop (w .place) ss))
+        (t .readable .ok .rising)))
+
+    module _ (b : Bool) (o : OverOn img page k b) where
+      over-here : b ≡ over (t .rule) k (spanAt (t .table) (w .place) .entries)
+      over-here = over-at t (w .place) within page page-here k b o
+
+      pub walking-stop : b ≡ true → found ≡ spanAt (t .table) (target (t .rule) k (t .table)) .page
+      walking-stop e =
+          let es : List Entry = spanAt (t .table) (w .place) .entries in
+          let v : T (over (t .rule) k es) = holds (over (t .rule) k es) (sym over-here ∙ e) in
+          let left : List Span = spanAt (t .table) (w .place) ∷ drop (suc (w .place)) (spansHere t) in
+          let later : Every (λ s. begins (t .rule) k (s .entries) ≡ false) left
+          = all-begin (t .rule) k left
+          (all-over (t .rule) k (ordered t) es (gather (λ s. s .entries) (drop (suc (w .place)) (spansHere t))) v rising-here) in
+          let is : target (t .rule) k (t .table) ≡ w .place - 1
+          = w .rest ∙ ap (lastPlace (t .rule) k (w .place - 1) (w .place)) first-here ∙ none-later (t .rule) k (w .place - 1) (w .place) left later in
+          w .last ∙ ap (λ (i : ℕ). spanAt (t .table) i .page) (sym is)
+
+      pub walking-next : b ≡ false → (next : ℕ) → next ≡ be32 (pg img page) 12 → Walking t k next (left - 1) page
+      walking-next e next f =
+          let es : List Entry = spanAt (t .table) (w .place) .entries in
+          let here : cond (begins (t .rule) k es) (w .place) (w .place - 1) ≡ w .place = not-over (t .rule) k es (w .place) (sym over-here ∙ e) (only-first t (w .place) within) in
+          let back : suc (w .place) - 1 ≡ w .place = omega arith in
+          record {
+            place = suc (w .place);
+            count = omega (arith, w .count, z);
+            here = f ∙ next-at t (w .place) within page page-here;
+            last = rw back page-here;
+            rest = rw back (rest-here ∙ ap (λ (n : ℕ). lastPlace (t .rule) k n (suc (w .place)) (drop (suc (w .place)) (spansHere t))) here);
+          }
+
+-- ---- find: in the target span
+
+module _ {img : List ℕ} {root : ℕ} (t : Reading img root) (k : List ℕ) where
+  abbrev pub place : ℕ
+  place = target (t .rule) k (t .table)
+
+  pub at-target : Target (t .rule) k (t .table) place
+  at-target = target-is (t .rule) (ordered t) k (t .table) (t .readable .ok)
+
+  module _ (page : ℕ) (h : TargetIn img root k page) where
+    pub target-span : SpanOn img page
+    target-span = reading-span t place (at-target .place) page (h .is t)
+
+    pub find-in : (a : Sought) → FoundOn img page k a → Answered img (find k (entriesOf (t .table))) a
+    find-in a f = answer-as (find-at (t .rule) (ordered t) k (t .table) place at-target) (found-at t place (at-target .place) page (h .is t) k a f)

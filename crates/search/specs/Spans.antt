@@ -1,0 +1,134 @@
+-- A span's entries as the code reads them: from place to place, in step with the list.
+use Prim.Native.Nat.{ℕ, _+_, _*_, _≤_, _<_}
+use mathlib.Core.Path.{_≡_}
+use mathlib.Core.Bool.{Bool, false}
+use mathlib.Core.List.{List, [], _∷_}
+use mathlib.Core.Option.{Option, none, some}
+use lib.ListN.{length, take, drop}
+use lib.Dec.{T}
+use Rattle.blockfile.specs.Bytes.{pg, Every}
+use Rattle.blockfile.specs.Layout.{Entry, entriesEnd, reached}
+use Rattle.blockfile.specs.Order.{KeyRule, bytesBelow, Rising, find, above}
+use Rattle.blockfile.specs.Fields.{LinkedSpan, EntriesAt}
+use Rattle.blockfile.specs.WellFormed.{Piece, span, pagesOf, Bears}
+use Rattle.entries.specs.declared.place.Place.{Place}
+use Rattle.entries.specs.declared.place.Sizes.{Sizes}
+use Rattle.entries.specs.Places.{IsPage, Rest, Enough, Moved}
+use Rattle.search.specs.declared.span.Sought.{Sought}
+use Rattle.search.specs.declared.span.Sought.the-variants.{Found, Missing}
+use Rattle.search.specs.declared.span.Stop.{Stop}
+use Rattle.search.specs.declared.span.Stop.the-variants.{Here, Above, End}
+
+-- the rule has the order in which the code compares keys, and allows no empty key
+pub record Bytewise (r : KeyRule) : Type 0 where
+  pub below : (k l : List ℕ) → r .below k l ≡ bytesBelow k l
+  pub some : (k : List ℕ) → T (r .allowed k) → 1 ≤ length k
+
+-- ---- A span on the image
+
+-- a piece is on pages of the image, and these bear it
+abbrev pub Borne : (img : List ℕ) → Piece → Type 0
+Borne img p = Bears (pg img) p × Every (IsPage img) (pagesOf p)
+
+-- all that reading a span of a table with this rule needs
+pub record Spanned (img : List ℕ) (r : KeyRule) (x : LinkedSpan) : Type 0 where
+  pub small : length img ≤ 4194304
+  pub borne : Borne img (span x)
+  pub reach : 1 + length (x .span .conts) ≡ reached (x .span .entries)
+  pub keys : Every (λ e. T (r .allowed (e .key))) (x .span .entries)
+  pub rising : Rising r (x .span .entries)
+  pub order : Bytewise r
+
+-- a span of a table is on the page
+pub record SpanOn (img : List ℕ) (page : ℕ) : Type 0 where
+  pub rule : KeyRule
+  pub linked : LinkedSpan
+  pub there : Spanned img rule linked
+  pub at : linked .span .page ≡ page
+
+-- ---- Bytes and entries at a place
+
+-- v are the n bytes from the place on
+pub record BytesAt (img : List ℕ) (at : Place) (n : ℕ) (v : List ℕ) : Type 0 where
+  pub bytes : List ℕ
+  pub rest : Rest img at bytes
+  pub long : n ≤ length bytes
+  pub is : v ≡ take n bytes
+
+-- the entries es are those from the place on, which is a position of the span's stream
+pub record Along (img : List ℕ) (at : Place) (es : List Entry) : Type 0 where
+  pub stream : List ℕ
+  pub pages : ℕ
+  pub position : ℕ
+  pub whole : length stream ≡ 1016 * pages
+  pub rest : Rest img at (drop position stream)
+  pub fits : entriesEnd position es ≤ length stream
+  pub are : EntriesAt stream position es
+
+-- there is an entry at the place
+pub record EntryThere (img : List ℕ) (at : Place) : Type 0 where
+  pub first : Entry
+  pub more : List Entry
+  pub along : Along img at (first ∷ more)
+
+-- g are the lengths of the entry e and the place of its key; the entries more follow it
+pub record EntryAt (img : List ℕ) (g : Sizes) (e : Entry) (more : List Entry) : Type 0 where
+  pub keySmall : g .key < 65536
+  pub valueSmall : g .value < 65536
+  pub enough : Enough img (g .after) (g .key + g .value)
+  pub key : BytesAt img (g .after) (g .key) (e .key)
+  pub value : (p : Place) → Moved img (g .after) (g .key) p → BytesAt img p (g .value) (e .value)
+  pub next : (p : Place) → Moved img (g .after) (g .key + g .value) p → Along img p more
+
+-- ---- Answers
+
+-- r says what the option is: the place and number of its bytes, or that there are none
+pub record Answered (img : List ℕ) (o : Option (List ℕ)) (r : Sought) : Type 0 where
+  pub found : (at : Place) (n : ℕ) → r ≡ Found at n → (v : List ℕ) × (o ≡ some v) × BytesAt img at n v
+  pub missing : r ≡ Missing → o ≡ none
+
+-- the search for k in es stopped at the entry with that key; with it, `left` entries are left
+pub record Met (img : List ℕ) (r : KeyRule) (k : List ℕ) (es : List Entry) (g : Sizes) (left : ℕ) : Type 0 where
+  pub entry : Entry
+  pub more : List Entry
+  pub at : EntryAt img g entry more
+  pub count : left ≡ 1 + length more
+  pub found : find k es ≡ some (entry .value)
+  pub next : above r k es ≡ above r [] more
+
+-- it stopped at the first entry above the key, which is not there
+pub record Passed (img : List ℕ) (r : KeyRule) (k : List ℕ) (es : List Entry) (g : Sizes) : Type 0 where
+  pub entry : Entry
+  pub more : List Entry
+  pub at : EntryAt img g entry more
+  pub found : find k es ≡ none
+  pub next : above r k es ≡ some (entry .key)
+
+-- where the search for k in es stopped
+pub record Stopped (img : List ℕ) (r : KeyRule) (k : List ℕ) (es : List Entry) (s : Stop) : Type 0 where
+  pub met : (g : Sizes) (left : ℕ) → s ≡ Here g left → Met img r k es g left
+  pub passed : (g : Sizes) → s ≡ Above g → Passed img r k es g
+  pub end : s ≡ End → (find k es ≡ none) × (above r k es ≡ none)
+
+-- the entries begin above the key
+abbrev pub over : KeyRule → (key : List ℕ) → List Entry → Bool
+over r k [] = false
+over r k (e ∷ es) = r .below k (e .key)
+
+-- ---- What the functions on a span answer, for every span that is on the page
+
+pub record StoppedOn (img : List ℕ) (page : ℕ) (k : List ℕ) (s : Stop) : Type 0 where
+  pub is : (x : SpanOn img page) → Stopped img (x .rule) k (x .linked .span .entries) s
+
+pub record FoundOn (img : List ℕ) (page : ℕ) (k : List ℕ) (r : Sought) : Type 0 where
+  pub is : (x : SpanOn img page) → Answered img (find k (x .linked .span .entries)) r
+
+pub record AboveOn (img : List ℕ) (page : ℕ) (k : List ℕ) (r : Sought) : Type 0 where
+  pub is : (x : SpanOn img page) → Answered img (above (x .rule) k (x .linked .span .entries)) r
+
+pub record OverOn (img : List ℕ) (page : ℕ) (k : List ℕ) (r : Bool) : Type 0 where
+  pub is : (x : SpanOn img page) → r ≡ over (x .rule) k (x .linked .span .entries)
+
+-- the key of the entry at the place
+pub record KeyOf (img : List ℕ) (at : Place) (r : Sought) : Type 0 where
+  pub is : (x : EntryThere img at) → Answered img (some (x .first .key)) r

@@ -1,0 +1,4 @@
+// Reading from an accepted image: a table by its name, an entry by its key, the next key.
+pub mod next;
+pub mod span;
+pub mod table;

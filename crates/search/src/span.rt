@@ -1,0 +1,120 @@
+// The entries of one span, read in their order. Keys rise, so a search stops at the first key above the one sought.
+ghost use Rattle.search.specs.Spans.{SpanOn, EntryThere, StoppedOn, FoundOn, AboveOn, OverOn, KeyOf};
+use entries::key::Order;
+use entries::key::compare_slice;
+use entries::place::Place;
+use entries::place::Sizes;
+use entries::place::forward;
+use entries::place::lengths;
+use pages::read::get16;
+
+// Where the bytes sought are and how many, if they are there.
+pub enum Sought {
+    Found(Place, usize),
+    Missing,
+}
+
+// Where a search along the entries stopped.
+pub enum Stop {
+    // At the entry with the key; with it, so many entries are left.
+    Here(Sizes, usize),
+    // At the first entry above the key.
+    Above(Sizes),
+    // Behind the last entry.
+    End,
+}
+
+// Searches the entries of the span on the page for the key.
+fn seek(image: &[u8], page: usize, key: &[u8]) -> Stop
+    requires { ⌜ SpanOn (now image) page ⌝ }
+    ensures { λ r. ⌜ StoppedOn (now (image .entry)) page (now (key .entry)) r ⌝ }
+{
+    let mut at = Place { page, offset: 20 };
+    let mut left = get16(image, page, 18);
+    while left != 0 {
+        let g = lengths(image, at);
+        let first = g.after;
+        let order = compare_slice(image, first, g.key, key);
+        match order {
+            Order::Less => {
+                at = forward(image, first, g.key + g.value);
+                left -= 1;
+            }
+            Order::Equal => {
+                return Stop::Here(g, left);
+            }
+            Order::Greater => {
+                return Stop::Above(g);
+            }
+        }
+    }
+    Stop::End
+}
+
+// The value under the key in the span on the page.
+pub fn find_entry(image: &[u8], page: usize, key: &[u8]) -> Sought
+    requires { ⌜ SpanOn (now image) page ⌝ }
+    ensures { λ r. ⌜ FoundOn (now (image .entry)) page (now (key .entry)) r ⌝ }
+{
+    let stop = seek(image, page, key);
+    match stop {
+        Stop::Here(g, _) => {
+            let first = g.after;
+            let value = forward(image, first, g.key);
+            Sought::Found(value, g.value)
+        }
+        Stop::Above(_) => Sought::Missing,
+        Stop::End => Sought::Missing,
+    }
+}
+
+// The key of the entry here.
+pub fn key_of(image: &[u8], at: Place) -> Sought
+    requires { ⌜ EntryThere (now image) at ⌝ }
+    ensures { λ r. ⌜ KeyOf (now (image .entry)) at r ⌝ }
+{
+    let g = lengths(image, at);
+    let first = g.after;
+    Sought::Found(first, g.key)
+}
+
+// The smallest key above the given one in the span on the page.
+pub fn key_above(image: &[u8], page: usize, key: &[u8]) -> Sought
+    requires { ⌜ SpanOn (now image) page ⌝ }
+    ensures { λ r. ⌜ AboveOn (now (image .entry)) page (now (key .entry)) r ⌝ }
+{
+    let stop = seek(image, page, key);
+    match stop {
+        Stop::Here(g, left) => {
+            if left == 1 {
+                return Sought::Missing;
+            }
+            let first = g.after;
+            let next = forward(image, first, g.key + g.value);
+            key_of(image, next)
+        }
+        Stop::Above(g) => {
+            let first = g.after;
+            Sought::Found(first, g.key)
+        }
+        Stop::End => Sought::Missing,
+    }
+}
+
+// Whether the span on the page begins above the key. An empty span does not.
+pub fn begins_above(image: &[u8], page: usize, key: &[u8]) -> bool
+    requires { ⌜ SpanOn (now image) page ⌝ }
+    ensures { λ r. ⌜ OverOn (now (image .entry)) page (now (key .entry)) r ⌝ }
+{
+    if get16(image, page, 18) == 0 {
+        return false;
+    }
+    let g = lengths(image, Place { page, offset: 20 });
+    let first = g.after;
+    let order = compare_slice(image, first, g.key, key);
+    match order {
+        Order::Greater => true,
+        Order::Less => false,
+        Order::Equal => false,
+    }
+}
