@@ -1,31 +1,35 @@
 -- The image in four stages: superblock, metaindex, named tables, free list. What is to be found from a stage on is what is to be
 -- found from the start; at the end every page is claimed exactly if each is owned once.
-use Prim.Native.Nat.{ℕ, zero, suc, _+_, _*_, _≤_}
+use Prim.Native.Nat.{ℕ, _+_, _*_, _≤_}
 use native.Mathlib.Omega.{arith}
 use mathlib.Core.Path.{_≡_, refl, ap, sym, _∙_, subst}
-use mathlib.Core.Bool.{Bool, true, cond}
+use mathlib.Core.Bool.{Bool, true, false, cond, true≢false}
 use mathlib.Core.List.{List, [], _∷_, _++_, map}
 use lib.ListN.{length, replicate, length-map, length-replicate}
 use lib.Dec.{T, eqb}
+use borrow.Author.Tests.{eqb-true}
 use Rattle.blockfile.specs.declared.Counts.{Counts}
 use Rattle.blockfile.specs.Bytes.{pg, word32, Every, gather}
 use Rattle.blockfile.specs.Layout.{Keyed, Entry, Table, Block, Layout, entriesOf, freeCount}
 use Rattle.blockfile.specs.Order.{Within, within, nameRule, keyRule}
-use Rattle.blockfile.specs.WellFormed.{Piece, superblock, pagesOf, TableOk, tablePieces, freePieces, firstBlock, pieces, WellFormed}
-use Rattle.pages.specs.Claims.{full}
+use Rattle.blockfile.specs.WellFormed.{Piece, superblock, pagesOf, Bears, TableOk, tablePieces, freePieces, firstBlock, pieces, WellFormed}
+use Rattle.blockfile.proofs.Bools.{so}
+use Rattle.blockfile.proofs.Every.{every-so}
+use Rattle.pages.specs.Claims.{Lent, full}
 use Rattle.walks.specs.declared.Walked.{Walked}
 use Rattle.walks.specs.declared.Walked.the-variants.{Refused, Done}
-use Rattle.walks.specs.Found.{claims, Found, FindsAt}
-use Rattle.walks.proofs.Founds.{SameAt, done-injective, refused-never, found-join, found-first, found-second}
+use Rattle.walks.specs.Found.{claims, Fresh, Found, FindsAt}
+use Rattle.walks.proofs.Founds.{SameAt, same-turn, done-injective, refused-never, found-join, found-first, found-second, fresh-left, fresh-right, length-claims}
 use Rattle.walks.proofs.Once.{claimed-once, once-claimed}
+use Rattle.search.specs.Spans.{Borne}
+use Rattle.spans.proofs.PageClaims.{inside-fresh}
 use Rattle.verify.specs.declared.superblock.Superblock.{Superblock}
 use Rattle.verify.specs.declared.superblock.Started.{Started}
 use Rattle.verify.specs.declared.superblock.Started.the-variants.{Begun, Refused as Unstarted}
-use Rattle.verify.specs.declared.image.Verdict.{Verdict}
 use Rattle.verify.specs.declared.image.Verdict.the-variants.{Bad, Good}
 use Rattle.verify.specs.Free.{FreeFound}
 use Rattle.verify.specs.Superblock.{SuperFound}
-use Rattle.verify.specs.Tables.{TableFound, listing, keysOf, TablesFound}
+use Rattle.verify.specs.Tables.{TableFound, listing, keysOf, TablesFound, MetaOn}
 use Rattle.verify.specs.Image.{countsOf, Judged}
 
 -- values in the metaindex are four bytes long
@@ -374,3 +378,77 @@ module _ (img : List ℕ) (p : ℕ) (size : length img ≡ 1024 * p) (range : Wi
         sound = λ d q. let i : c ≡ d = cc in (w .layout, well c out w e, sym i ∙ w .counts);
         complete = λ L x. let y = whole L x in ap Good (sym (only (countsOf L) (y .0) (y .1)));
       }
+
+-- ---- The metaindex that was found, to be read
+
+borne-found : (img scr : List ℕ) (ps : List Piece) → length img ≡ 1024 * length scr → Every (Bears (pg img)) ps → Fresh scr (gather pagesOf ps) → Every (Borne img) ps
+borne-found img scr [] size b f = tt
+borne-found img scr (x ∷ ps) size b f = (
+  (b .0, inside-fresh img scr (pagesOf x) size (fresh-left scr (pagesOf x) (gather pagesOf ps) f)),
+  borne-found img (claims scr (pagesOf x)) ps (size ∙ ap (λ (n : ℕ). 1024 * n) (sym (length-claims scr (pagesOf x)))) (b .1) (fresh-right scr (pagesOf x) (gather pagesOf ps) f),
+)
+
+meta-on : (img scr : List ℕ) (m : ℕ) (mid : List ℕ) → Lent img scr → (x : MetaFound img scr m mid) → MetaOn img (x .table)
+meta-on img scr m mid lent x =
+    record {
+      small = omega (arith, lent .size, lent .most);
+      page = x .named;
+      ok = x .ok;
+      fours = every-so (λ (e : Entry). T (four (length (e .value)))) (λ e t. eqb-true (length (e .value)) 4 (so _ t)) (entriesOf (x .table)) (x .sizes);
+      borne = borne-found img scr (tablePieces (x .table)) (lent .size) (x .found .bears) (x .found .fresh);
+    }
+
+-- ---- The verdict at each stage
+
+module _ (img scr : List ℕ) (lent : Lent img scr) (enough : 4 ≤ length scr) (clear : scr ≡ replicate (length scr) 0) where
+  bad : ((c : Counts) (out : List ℕ) → Whole img scr c out → full out ≡ true → ⊥) → Judged img Bad
+  bad n = verdict-bad img (length scr) (lent .size) (enough, lent .most) (λ c out w e. n c out (subst (λ (s : List ℕ). Whole img s c out) (sym clear) w) e)
+
+  module _ (r : Started) (s : List ℕ) (f : FindsAt Begun (SuperFound img scr) r s) where
+    pub bad-super : r ≡ Unstarted → Judged img Bad
+    bad-super q = bad (λ c out w e. no-super img scr r s f q c out w)
+
+    module _ (a : Superblock) (e : r ≡ Begun a) (lent₁ : Lent img s) (r₁ : Walked) (s₁ : List ℕ) (f₁ : FindsAt Done (TableFound nameRule four img s 2) r₁ s₁) where
+      started : SameAt (Tabled img (length scr) (a .free) s) (Whole img scr)
+      started = past-super img scr r s f a e
+
+      pub bad-meta : r₁ ≡ Refused → Judged img Bad
+      bad-meta q = bad (λ c out w e. no-meta img (length scr) (a .free) s r₁ s₁ f₁ q c out (started .back c out w))
+
+      module _ (m : ℕ) (e₁ : r₁ ≡ Done m) where
+        pub meta-there : (meta : Table) × MetaOn img meta
+        meta-there = let x : MetaFound img s m s₁ = f₁ .sound m e₁ in (x .table, meta-on img s m s₁ lent₁ x)
+
+        module _ (r₂ : Walked) (s₂ : List ℕ) (f₂ : (meta : Table) → MetaOn img meta → FindsAt Done (TablesFound img s₁ (entriesOf meta) 0) r₂ s₂) where
+          walked : (x : MetaFound img s m s₁) → FindsAt Done (TablesFound img s₁ (entriesOf (x .table)) 0) r₂ s₂
+          walked x = f₂ (x .table) (meta-on img s m s₁ lent₁ x)
+
+          known : SameAt (Named img (length scr) (a .free) s m s₁) (Whole img scr)
+          known = same-turn (past-meta img (length scr) (a .free) s r₁ s₁ f₁ m e₁) started
+
+          pub bad-tables : r₂ ≡ Refused → Judged img Bad
+          bad-tables q = bad (λ c out w e. no-tables img (length scr) (a .free) s m s₁ r₂ s₂ walked q c out (known .back c out w))
+
+          module _ (k : ℕ) (e₂ : r₂ ≡ Done k) (r₃ : Walked) (s₃ : List ℕ) (f₃ : FindsAt Done (FreeFound img s₂ (a .free) 0) r₃ s₃) where
+            tabled : SameAt (Listed img (length scr) (a .free) s m s₁ k s₂) (Whole img scr)
+            tabled = same-turn (past-tables img (length scr) (a .free) s m s₁ r₂ s₂ walked k e₂) known
+
+            pub bad-free : r₃ ≡ Refused → Judged img Bad
+            bad-free q = bad (λ c out w e. no-free img (length scr) (a .free) s m s₁ k s₂ r₃ s₃ f₃ q c out (tabled .back c out w))
+
+            module _ (n : ℕ) (e₃ : r₃ ≡ Done n) where
+              only : (c : Counts) (out : List ℕ) → Whole img scr c out → (c ≡ counted (length scr) m k n) × (out ≡ s₃)
+              only c out w = free-only img (length scr) (a .free) s m s₁ k s₂ r₃ s₃ f₃ n e₃ c out (tabled .back c out w)
+
+              pub bad-unowned : full s₃ ≡ false → Judged img Bad
+              bad-unowned q = bad (λ c out w e. true≢false (sym e ∙ ap full (only c out w .1) ∙ q))
+
+              pub good : (p : ℕ) → p ≡ length scr → full s₃ ≡ true → Judged img (Good (counted p m k n))
+              good p i q =
+                  let x : MetaFound img s m s₁ = f₁ .sound m e₁ in
+                  let l : Listed img (length scr) (a .free) s m s₁ k s₂ (counted (length scr) m k n) s₃
+                  = free-there img (length scr) (a .free) s m s₁ k s₂ r₃ s₃ f₃ n e₃ x (walked x .sound k e₂) in
+                  subst (λ (x : ℕ). Judged img (Good (counted x m k n))) (sym i)
+                  (verdict-good img (length scr) (lent .size) (enough, lent .most) (counted (length scr) m k n) s₃
+                  (subst (λ (t : List ℕ). Whole img t (counted (length scr) m k n) s₃) clear (tabled .to (counted (length scr) m k n) s₃ l)) q
+                  (λ d t w. only d t (subst (λ (u : List ℕ). Whole img u d t) (sym clear) w) .0))

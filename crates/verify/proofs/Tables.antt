@@ -1,18 +1,18 @@
 -- A table: its spans and its towers joined, and its skip-list page.
-use Prim.Native.Nat.{ℕ, zero, suc, _+_, _*_, _≤_, _<_}
+use Prim.Native.Nat.{ℕ, suc, _+_, _≤_}
 use native.Mathlib.Omega.{arith}
-use mathlib.Core.Path.{_≡_, refl, ap, ap₂, sym, _∙_, subst}
+use mathlib.Core.Path.{_≡_, refl, ap, sym, _∙_, subst}
 use mathlib.Core.Bool.{Bool, true, false, true≢false}
 use mathlib.Core.Option.{some}
-use mathlib.Core.List.{List, [], _∷_, _++_, map}
+use mathlib.Core.List.{List, _∷_, _++_, map}
 use lib.ListN.{length, length-map}
 use lib.Dec.{T}
 use Rattle.blockfile.specs.Bytes.{pg, be16, be32, Every, gather}
 use Rattle.blockfile.specs.Marks.{skipMark}
-use Rattle.blockfile.specs.Layout.{Entry, Span, Tower, Column, Table, columns, spansOf, towersOf, entriesOf}
-use Rattle.blockfile.specs.Order.{KeyRule, Within}
+use Rattle.blockfile.specs.Layout.{Entry, Span, Column, columns, spansOf, towersOf, entriesOf}
+use Rattle.blockfile.specs.Order.{Within}
 use Rattle.blockfile.specs.Fields.{SkipList, IsSkipList}
-use Rattle.blockfile.specs.WellFormed.{Piece, span, tower, skipList, pagesOf, Bears, linkSpans, linkTowers, spansIn, towersIn, skipListOf, TableOk, tablePieces}
+use Rattle.blockfile.specs.WellFormed.{span, tower, skipList, pagesOf, linkSpans, linkTowers, spansIn, towersIn, skipListOf}
 use Rattle.pages.specs.Claims.{Lent, claimable, claimed, Claimed}
 use Rattle.pages.proofs.Marks.{begins-take, take-begins}
 use Rattle.walks.specs.declared.Walked.{Walked}
@@ -23,7 +23,7 @@ use Rattle.walks.proofs.Pieces.{Single, found-claimable, found-rest, found-cons
 use Rattle.spans.specs.declared.Rule.{Rule}
 use Rattle.spans.specs.declared.Counted.{Counted}
 use Rattle.spans.specs.declared.Counted.the-variants.{Broken as NoSpans, Whole as AllSpans}
-use Rattle.spans.specs.Spans.{ruleOf, sized, entriesIn, SpansOk, Counts, whole, SpansFound}
+use Rattle.spans.specs.Spans.{ruleOf, sized, entriesIn, SpansOk, whole, SpansFound}
 use Rattle.towers.specs.Towers.{Spanned, HasSpans, TowersFound}
 use Rattle.towers.proofs.Heads.{spans-found}
 use Rattle.verify.specs.declared.table.Columned.{Columned}

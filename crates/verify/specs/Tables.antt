@@ -1,15 +1,17 @@
 -- The tables, as their walks find them.
-use Prim.Native.Nat.{ℕ, _+_}
+use Prim.Native.Nat.{ℕ, _+_, _≤_}
 use mathlib.Core.Path.{_≡_}
 use mathlib.Core.Bool.{Bool}
 use mathlib.Core.List.{List, [], _∷_, _++_, map}
 use lib.ListN.{length}
 use lib.Dec.{T}
-use Rattle.blockfile.specs.Bytes.{pg, be32, word32, Every, gather}
+use Rattle.blockfile.specs.Bytes.{pg, be16, be32, word32, Every, gather}
 use Rattle.blockfile.specs.Layout.{Keyed, Entry, Table, columns, towersOf, entriesOf}
-use Rattle.blockfile.specs.Order.{KeyRule, keyRule}
+use Rattle.blockfile.specs.Order.{KeyRule, nameRule, keyRule}
 use Rattle.blockfile.specs.WellFormed.{span, tower, spansIn, towersIn, TableOk, tablePieces}
 use Rattle.walks.specs.Found.{Found}
+use Rattle.entries.specs.Places.{IsPage}
+use Rattle.search.specs.Spans.{Borne, Along}
 use Rattle.verify.specs.declared.table.Columned.{Columned}
 use Rattle.verify.specs.declared.table.Columned.the-variants.{Whole}
 
@@ -66,3 +68,19 @@ pub record CountsAre (b : List ℕ) (keys spans levels : ℕ) : Type 0 where
   pub sizeIs : be32 b 16 ≡ keys
   pub spansIs : be32 b 20 ≡ spans
   pub levelsIs : be32 b 24 ≡ levels
+
+-- es are the entries of the metaindex's span on the page, from place to place; their values are four bytes long
+pub record NamesOn (img : List ℕ) (page : ℕ) (es : List Entry) : Type 0 where
+  pub small : length img ≤ 4194304
+  pub inside : IsPage img page
+  pub count : be16 (pg img page) 18 ≡ length es
+  pub along : Along img (record { page = page; offset = 20 }) es
+  pub fours : Every (λ e. length (e .value) ≡ 4) es
+
+-- the metaindex, on pages of the image that bear it
+pub record MetaOn (img : List ℕ) (meta : Table) : Type 0 where
+  pub small : length img ≤ 4194304
+  pub page : meta .root ≡ 2
+  pub ok : TableOk nameRule meta
+  pub fours : Every (λ e. length (e .value) ≡ 4) (entriesOf meta)
+  pub borne : Every (Borne img) (tablePieces meta)

@@ -10,50 +10,40 @@ use Rattle.pages.proofs.claim.claim.Reads as claim-reads
 use Rattle.pages.proofs.read.get32.Reads as get32-reads
 use Rattle.verify.proofs.free.claim_listed.Reads as claim-listed-reads
 
--- src/free.rt:39:9
 claim-requires : tie.Need-claim-requires
 claim-requires c κs = search needs
 
--- src/free.rt:40:9
 same-length : tie.Need-same-length
 same-length c = search needs
 
--- src/free.rt:40:9
 returns : tie.Need-returns
 returns c = block-no _ _ _ _ _ (c .before .before .before .claim .ensures) (not-true _ (c .if1 .taken))
 
--- src/free.rt:42:9
 get32-requires : tie.Need-get32-requires
 get32-requires c κs =
     let o = block-open _ _ _ _ _ (c .before .before .before .claim .ensures) (not-false _ (c .if1 .left)) in
     record { small = omega arith; low = omega arith; high = omega arith; fits = omega arith }
 
--- src/free.rt:44:9
 same-length-2 : tie.Need-same-length-2
 same-length-2 c = search needs
 
--- src/free.rt:44:9
 returns-2 : tie.Need-returns-2
 returns-2 c =
     let d = c .before .before in
     block-over _ _ _ _ _ (d .before .before .before .claim .ensures) (not-false _ (d .if1 .left)) _ (c .before .get32 .ensures .is) (c .if2 .taken)
 
--- src/free.rt:46:8
 claim-listed-requires : tie.Need-claim-listed-requires
 claim-listed-requires c κs =
     let d = c .before .before .before in
     let o = block-open _ _ _ _ _ (d .before .before .before .claim .ensures) (not-false _ (d .if1 .left)) in
     (record { size = omega arith; most = omega arith }, record { small = omega arith; low = omega arith; high = omega arith; fits = omega arith })
 
--- src/free.rt:47:29
 add-t12 : tie.Need-add-t12
 add-t12 c = search needs
 
--- src/free.rt:47:9
 same-length-3 : tie.Need-same-length-3
 same-length-3 c = search needs
 
--- src/free.rt:47:9
 returns-3 : tie.Need-returns-3
 returns-3 c =
     let l = c .before .before .before in
@@ -62,11 +52,9 @@ returns-3 c =
     block-done _ _ _ _ _ (d .before .before .before .claim .ensures) (not-false _ (d .if1 .left)) _ (g .get32 .ensures .is) _ _ (l .claim-listed .ensures)
     (l .before .before .if2 .left) (c .if3 .taken)
 
--- src/free.rt:35:1
 same-length-4 : tie.Need-same-length-4
 same-length-4 c = search needs
 
--- src/free.rt:35:1
 returns-4 : tie.Need-returns-4
 returns-4 c =
     let l = c .before .before .before in

@@ -16,31 +16,24 @@ Inv-loop image scratch₀ page count i₀ scratch i = Listing image scratch₀ s
 abbrev μ-loop : tie.MeasureT-loop
 μ-loop image scratch₀ page count i₀ scratch i = count - i
 
--- src/free.rt:24:5
 loop-holds : tie.Need-loop-holds Inv-loop μ-loop
 loop-holds c = listing-start _ _ _ _
 
--- src/free.rt:25:46
 mul-get32 : tie.Need-mul-get32 Inv-loop μ-loop
 mul-get32 c = omega arith
 
--- src/free.rt:25:41
 add-get32 : tie.Need-add-get32 Inv-loop μ-loop
 add-get32 c = omega arith
 
--- src/free.rt:25:13
 get32-requires : tie.Need-get32-requires Inv-loop μ-loop
 get32-requires c κs = record { small = omega arith; low = omega arith; high = omega arith; fits = omega arith }
 
--- src/free.rt:26:13
 claim-requires : tie.Need-claim-requires Inv-loop μ-loop
 claim-requires c κs = (omega arith, record { size = omega arith; most = omega arith })
 
--- src/free.rt:27:13
 same-length : tie.Need-same-length Inv-loop μ-loop
 same-length c = omega arith
 
--- src/free.rt:27:13
 returns : tie.Need-returns Inv-loop μ-loop
 returns c =
     let a = c .before .before .before in
@@ -48,15 +41,12 @@ returns c =
     listing-no _ _ _ _ _ _ (g .before .before .loop .inv) (g .before .loop-test .taken) _ (g .get32 .ensures .is) _ _ (a .claim .ensures)
     (not-true _ (c .if1 .taken))
 
--- src/free.rt:29:9
 add-i : tie.Need-add-i Inv-loop μ-loop
 add-i c = omega arith
 
--- src/free.rt:24:5
 loop-less : tie.Need-loop-less Inv-loop μ-loop
 loop-less c = omega arith
 
--- src/free.rt:24:5
 loop-again : tie.Need-loop-again Inv-loop μ-loop
 loop-again c =
     let a = c .before .before .before in
@@ -64,11 +54,9 @@ loop-again c =
     listing-next _ _ _ _ _ _ (g .before .before .loop .inv) (g .before .loop-test .taken) _ (g .get32 .ensures .is) _ _ (a .claim .ensures)
     (not-false _ (c .if1 .left))
 
--- src/free.rt:19:1
 same-length-2 : tie.Need-same-length-2 Inv-loop μ-loop
 same-length-2 c = omega arith
 
--- src/free.rt:19:1
 returns-2 : tie.Need-returns-2 Inv-loop μ-loop
 returns-2 c = listing-end _ _ _ _ _ _ (c .before .loop .inv) (λ h. omega arith)
 

@@ -11,43 +11,33 @@ use Rattle.verify.proofs.superblock.is_fixed.Lts as lts
 use Rattle.pages.proofs.read.get16.Reads as get16-reads
 use Rattle.pages.proofs.read.get32.Reads as get32-reads
 
--- src/superblock.rt:35:8
 get16-requires : tie.Need-get16-requires
 get16-requires c κs = search needs
 
--- src/superblock.rt:36:9
 returns : tie.Need-returns
 returns c = version-not _ _ (omega arith) (λ e. c .if1 .taken (c .before .get16 .ensures .is ∙ e))
 
--- src/superblock.rt:38:8
 get32-requires : tie.Need-get32-requires
 get32-requires c κs = search needs
 
--- src/superblock.rt:39:9
 returns-2 : tie.Need-returns-2
 returns-2 c = high-not _ _ (omega arith) (λ e. c .if2 .taken (c .before .get32 .ensures .is ∙ e))
 
--- src/superblock.rt:41:8
 get32-requires-2 : tie.Need-get32-requires-2
 get32-requires-2 c κs = search needs
 
--- src/superblock.rt:41:31
 mul-if3 : tie.Need-mul-if3
 mul-if3 c = search needs
 
--- src/superblock.rt:42:9
 returns-3 : tie.Need-returns-3
 returns-3 c = low-not _ _ (omega arith) (sym (c .before .before .before .get32 .ensures .is) ∙ c .before .before .if2 .left) (λ e. c .if3 .taken (c .before .get322 .ensures .is ∙ e))
 
--- src/superblock.rt:44:8
 get32-requires-3 : tie.Need-get32-requires-3
 get32-requires-3 c κs = search needs
 
--- src/superblock.rt:45:9
 returns-4 : tie.Need-returns-4
 returns-4 c = page-not _ _ (omega arith) (λ e. c .if4 .taken (c .before .get323 .ensures .is ∙ e))
 
--- src/superblock.rt:31:1
 returns-5 : tie.Need-returns-5
 returns-5 c =
     let low = c .before .before .before in

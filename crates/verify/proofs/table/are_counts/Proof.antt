@@ -7,31 +7,24 @@ use Rattle.verify.proofs.table.are_counts.Reads as reads
 use Rattle.verify.proofs.table.are_counts.Lts as lts
 use Rattle.pages.proofs.read.get32.Reads as get32-reads
 
--- src/table.rt:49:8
 get32-requires : tie.Need-get32-requires
 get32-requires c κs = search needs
 
--- src/table.rt:50:9
 returns : tie.Need-returns
 returns c = size-not _ _ _ _ (λ e. c .if1 .taken (c .before .get32 .ensures .is ∙ e))
 
--- src/table.rt:52:8
 get32-requires-2 : tie.Need-get32-requires-2
 get32-requires-2 c κs = search needs
 
--- src/table.rt:53:9
 returns-2 : tie.Need-returns-2
 returns-2 c = spans-not _ _ _ _ (λ e. c .if2 .taken (c .before .get322 .ensures .is ∙ e))
 
--- src/table.rt:55:8
 get32-requires-3 : tie.Need-get32-requires-3
 get32-requires-3 c κs = search needs
 
--- src/table.rt:56:9
 returns-3 : tie.Need-returns-3
 returns-3 c = levels-not _ _ _ _ (λ e. c .if3 .taken (c .before .get323 .ensures .is ∙ e))
 
--- src/table.rt:45:1
 returns-4 : tie.Need-returns-4
 returns-4 c = search needs
 

@@ -9,38 +9,30 @@ use Rattle.pages.proofs.read.get32.Reads as get32-reads
 use Rattle.spans.proofs.verify_spans.Reads as verify-spans-reads
 use Rattle.towers.proofs.verify_towers.Reads as verify-towers-reads
 
--- src/table.rt:33:9
 get32-requires : tie.Need-get32-requires
 get32-requires c κs = search needs
 
--- src/table.rt:34:39
 verify-spans-requires : tie.Need-verify-spans-requires
 verify-spans-requires c κs = (record { size = omega arith; most = omega arith }, omega arith)
 
--- src/table.rt:34:24
 enum-known-keys : tie.Need-enum-known-keys
 enum-known-keys c = search needs
 
--- src/table.rt:35:9
 enum-told : tie.Need-enum-told
 enum-told c = search needs
 
--- src/table.rt:35:9
 same-length : tie.Need-same-length
 same-length c = search needs
 
--- src/table.rt:35:9
 returns : tie.Need-returns
 returns c =
     let v = c .before .before .before .before in
     let g = v .before .before in
     columns-no-spans _ _ _ (g .before .before .before .pre .0) _ _ (g .before .before .before .pre .2) _ (g .get32 .ensures .is) _ _ (v .verify-spans .ensures) (c .enum-told .given .1)
 
--- src/table.rt:37:9
 get32-requires-2 : tie.Need-get32-requires-2
 get32-requires-2 c κs = search needs
 
--- src/table.rt:38:32
 verify-towers-requires : tie.Need-verify-towers-requires
 verify-towers-requires c κs =
     let k = c .before .before in
@@ -49,19 +41,15 @@ verify-towers-requires c κs =
     let x = spans-there _ _ _ (g .before .before .before .pre .0) _ _ (g .before .before .before .pre .2) _ (g .get32 .ensures .is) _ _ (v .verify-spans .ensures) _ _ (k .before .keys .given .1) in
     (x .1, x .0)
 
--- src/table.rt:38:22
 enum-known-levels : tie.Need-enum-known-levels
 enum-known-levels c = search needs
 
--- src/table.rt:39:9
 enum-told-2 : tie.Need-enum-told-2
 enum-told-2 c = search needs
 
--- src/table.rt:39:9
 same-length-2 : tie.Need-same-length-2
 same-length-2 c = search needs
 
--- src/table.rt:39:9
 returns-2 : tie.Need-returns-2
 returns-2 c =
     let w = c .before .before .before .before in
@@ -72,11 +60,9 @@ returns-2 c =
     columns-no-towers _ _ _ (g .before .before .before .pre .0) _ _ (g .before .before .before .pre .2) _ (g .get32 .ensures .is) _ _ (v .verify-spans .ensures) _ _ (k .before .keys .given .1)
     _ (h .get322 .ensures .is) _ _ (w .verify-towers .ensures) (c .enum-told2 .given .1)
 
--- src/table.rt:29:1
 same-length-3 : tie.Need-same-length-3
 same-length-3 c = search needs
 
--- src/table.rt:29:1
 returns-3 : tie.Need-returns-3
 returns-3 c =
     let w = c .before .before .before .before .before in

@@ -16,19 +16,15 @@ use Rattle.pages.proofs.read.get16.Reads as get16-reads
 use Rattle.verify.proofs.table.are_counts.Reads as are-counts-reads
 use Rattle.verify.proofs.table.verify_columns.Reads as verify-columns-reads
 
--- src/table.rt:66:9
 claim-requires : tie.Need-claim-requires
 claim-requires c κs = search needs
 
--- src/table.rt:67:9
 same-length : tie.Need-same-length
 same-length c = search needs
 
--- src/table.rt:67:9
 returns : tie.Need-returns
 returns c = table-no (c .before .before .before .before .before .before .before .args .rule) _ _ _ _ _ (c .before .before .before .claim .ensures) (not-true _ (c .if1 .taken))
 
--- src/table.rt:69:9
 -- the skip-list page is claimed
 opened : (c : tie.Else1)
     → let claimed = c .before .before .before in
@@ -39,46 +35,37 @@ opened c = table-open _ _ _ _ _ (c .before .before .before .claim .ensures) (not
 get16-requires : tie.Need-get16-requires
 get16-requires c κs = let o = opened c in record { small = omega arith; low = omega arith; high = omega arith; fits = omega arith }
 
--- src/table.rt:71:9
 same-length-2 : tie.Need-same-length-2
 same-length-2 c = search needs
 
--- src/table.rt:71:9
 returns-2 : tie.Need-returns-2
 returns-2 c =
     let d = c .before .before in
     table-size (d .before .before .before .before .before .before .before .args .rule) _ _ _ _ _ (d .before .before .before .claim .ensures) (not-false _ (d .if1 .left)) (λ w. omega (arith, c .before .get16 .ensures .is))
 
--- src/table.rt:74:9
 same-length-3 : tie.Need-same-length-3
 same-length-3 c = search needs
 
--- src/table.rt:74:9
 returns-3 : tie.Need-returns-3
 returns-3 c =
     let g = c .before .before in
     let d = g .before in
     table-size (d .before .before .before .before .before .before .before .args .rule) _ _ _ _ _ (d .before .before .before .claim .ensures) (not-false _ (d .if1 .left)) (λ w. omega (arith, g .get16 .ensures .is))
 
--- src/table.rt:76:48
 verify-columns-requires : tie.Need-verify-columns-requires
 verify-columns-requires c κs =
     let o = opened (c .before .before .before .before) in
     (record { size = omega arith; most = omega arith }, record { small = omega arith; low = omega arith; high = omega arith; fits = omega arith }, omega arith)
 
--- src/table.rt:76:25
 enum-known-keys : tie.Need-enum-known-keys
 enum-known-keys c = search needs
 
--- src/table.rt:77:9
 enum-told : tie.Need-enum-told
 enum-told c = search needs
 
--- src/table.rt:77:9
 same-length-4 : tie.Need-same-length-4
 same-length-4 c = search needs
 
--- src/table.rt:77:9
 returns-4 : tie.Need-returns-4
 returns-4 c =
     let v = c .before .before .before .before in
@@ -86,17 +73,14 @@ returns-4 c =
     let d = g .before in
     table-broken (d .before .before .before .before .before .before .before .args .rule) _ _ _ _ _ (d .before .before .before .claim .ensures) (not-false _ (d .if1 .left)) _ (g .get16 .ensures .is) _ _ (v .verify-columns .ensures) (c .enum-told .given .1)
 
--- src/table.rt:79:8
 are-counts-requires : tie.Need-are-counts-requires
 are-counts-requires c κs =
     let o = opened (c .before .before .before .before .before .before .before .before .before .before) in
     record { small = omega arith; low = omega arith; high = omega arith; fits = omega arith }
 
--- src/table.rt:80:9
 same-length-5 : tie.Need-same-length-5
 same-length-5 c = search needs
 
--- src/table.rt:80:9
 returns-5 : tie.Need-returns-5
 returns-5 c =
     let k = c .before .before in
@@ -106,11 +90,9 @@ returns-5 c =
     table-done (d .before .before .before .before .before .before .before .args .rule) _ _ _ _ _ (d .before .before .before .claim .ensures) (not-false _ (d .if1 .left)) _ (g .get16 .ensures .is) _ _ (v .verify-columns .ensures) _ _ _ (k .before .keys .given .1)
     (c .before .are-counts .ensures .sound (c .if4 .taken))
 
--- src/table.rt:62:1
 same-length-6 : tie.Need-same-length-6
 same-length-6 c = search needs
 
--- src/table.rt:62:1
 returns-6 : tie.Need-returns-6
 returns-6 c =
     let k = c .before .before in

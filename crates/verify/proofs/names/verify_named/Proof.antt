@@ -1,0 +1,135 @@
+use mathlib.Core.List.{List}
+use Prim.Native.Nat.{ℕ, _<_}
+use native.Mathlib.Omega.{arith}
+use mathlib.Core.Path.{_≡_, _∙_}
+use borrow.Author.Needs.{needs}
+use lib.ListN.{getD}
+use Rattle.blockfile.specs.Layout.{Entry}
+use Rattle.pages.specs.Claims.{Lent}
+use Rattle.verify.specs.Tables.{NamesOn}
+use Rattle.verify.proofs.Named.{Naming, naming-start, naming-end, naming-lengths, naming-key, naming-past, naming-value, naming-no, naming-next, table-fewer}
+use Rattle.verify.proofs.names.verify_named.Statement.{statement}
+use Rattle.verify.proofs.names.verify_named.Tie as tie
+
+abbrev Inv-loop : tie.InvT-loop
+Inv-loop image scratch₀ page before at₀ left₀ keys₀ scratch at left keys =
+    (es : List Entry) → NamesOn image page es → Naming image scratch₀ es before scratch at left keys
+
+abbrev μ-loop : tie.MeasureT-loop
+μ-loop image scratch₀ page before at₀ left₀ keys₀ scratch at left keys = left
+
+get16-requires : tie.Need-get16-requires Inv-loop μ-loop
+get16-requires c κs =
+    let h = c .before .before .pre .1 .1 in
+    record { small = h .small; low = h .inside .low; high = h .inside .high; fits = omega arith }
+
+loop-holds : tie.Need-loop-holds Inv-loop μ-loop
+loop-holds c es h = naming-start _ _ _ _ es h _ (c .get16 .ensures .is)
+
+-- what is to be found, for some entries of the span
+naming : (l : tie.In-loop Inv-loop μ-loop)
+    → let start = l .before .before .before .before .before in
+    Naming (start .args .image .now) (start .args .scratch .now) (start .pre .1 .0) (start .args .before) (l .before .loop .scratch) (l .before .loop .at) (l .before .loop .left) (l .before .loop .keys)
+naming l = let start = l .before .before .before .before .before in l .before .loop .inv (start .pre .1 .0) (start .pre .1 .1)
+
+lent : (l : tie.In-loop Inv-loop μ-loop) → Lent (l .before .before .before .before .before .args .image .now) (l .before .loop .scratch)
+lent l =
+    let p = l .before .before .before .before .before .pre .0 in
+    record { size = omega (arith, p .size, naming l .long); most = omega (arith, p .most, naming l .long) }
+
+bytes : (l : tie.In-loop Inv-loop μ-loop) (i : ℕ) → getD (l .before .before .before .before .before .args .image .now) i 0 < 256
+bytes l i = let b = l .before .before .before .before .shared-slice-known .given i in omega arith
+
+lengths-requires : tie.Need-lengths-requires Inv-loop μ-loop
+lengths-requires c κs = naming-lengths (naming c) (c .loop-test .taken)
+
+forward-requires : tie.Need-forward-requires Inv-loop μ-loop
+forward-requires c κs =
+    let l = c .before .before in
+    naming-key (naming l) (l .loop-test .taken) _ (c .before .lengths .ensures)
+
+number-requires : tie.Need-number-requires Inv-loop μ-loop
+number-requires c κs =
+    let g = c .before .before in
+    naming-value (naming (g .before)) (g .before .loop-test .taken) _ (g .lengths .ensures) _ (c .forward .ensures)
+
+verify-table-requires : tie.Need-verify-table-requires Inv-loop μ-loop
+verify-table-requires c κs = lent (c .before .before .before .before .before)
+
+enum-known-n : tie.Need-enum-known-n Inv-loop μ-loop
+enum-known-n c = search needs
+
+enum-told : tie.Need-enum-told Inv-loop μ-loop
+enum-told c = search needs
+
+same-length : tie.Need-same-length Inv-loop μ-loop
+same-length c = c .before .before .before .before .verify-table .kept .1 .0 ∙ naming (c .before .before .before .before .before .before .before .before .before .before) .long
+
+returns : tie.Need-returns Inv-loop μ-loop
+returns c es h =
+    let took = c .before .before .before .before in
+    let root = took .before .before in
+    let g = root .before .before .before in
+    let l = g .before in
+    naming-no (l .before .loop .inv es h) (l .loop-test .taken) _ (g .lengths .ensures) _ (root .before .forward .ensures) (lent l) (bytes l) _ (root .number .ensures)
+    _ _ (took .verify-table .ensures) (c .enum-told .given .1)
+
+add-keys : tie.Need-add-keys Inv-loop μ-loop
+add-keys c =
+    let took = c .before .before .before .before .before in
+    let l = took .before .before .before .before .before .before in
+    omega (arith, table-fewer _ _ _ _ _ (took .verify-table .ensures .sound _ (c .before .n .given .1)), naming l .few, l .before .before .before .before .before .pre .2)
+
+add-forward : tie.Need-add-forward Inv-loop μ-loop
+add-forward c = omega (arith, c .before .before .before .before .before .before .before .before .before .before .before .lengths .ensures .keyBelow, c .before .before .before .before .before .before .before .before .before .before .before .lengths .ensures .valueBelow)
+
+forward-requires-2 : tie.Need-forward-requires-2 Inv-loop μ-loop
+forward-requires-2 c κs =
+    let g = c .before .before .before .before .before .before .before .before .before .before .before in
+    naming-past (naming (g .before)) (g .before .loop-test .taken) _ (g .lengths .ensures)
+
+sub-left : tie.Need-sub-left Inv-loop μ-loop
+sub-left c = let t = c .before .before .before .before .before .before .before .before .before .before .before .before .before .loop-test .taken in omega arith
+
+loop-less : tie.Need-loop-less Inv-loop μ-loop
+loop-less c = let t = c .before .before .before .before .before .before .before .before .before .before .before .before .before .loop-test .taken in omega arith
+
+loop-again : tie.Need-loop-again Inv-loop μ-loop
+loop-again c es h =
+    let took = c .before .before .before .before .before .before .before in
+    let root = took .before .before in
+    let g = root .before .before .before in
+    let l = g .before in
+    naming-next (l .before .loop .inv es h) (l .loop-test .taken) _ (g .lengths .ensures) _ (root .before .forward .ensures) (lent l) (bytes l) _ (root .number .ensures)
+    _ _ (took .verify-table .ensures) _ (c .before .before .before .n .given .1) _ (c .forward2 .ensures)
+
+same-length-2 : tie.Need-same-length-2 Inv-loop μ-loop
+same-length-2 c = c .before .loop .inv _ (c .before .before .before .before .before .pre .1 .1) .long
+
+returns-2 : tie.Need-returns-2 Inv-loop μ-loop
+returns-2 c es h = naming-end (c .before .loop .inv es h) (c .loop-test .left)
+
+pub verify-named-spec : {M : Type 1} → statement M
+verify-named-spec =
+    tie.close
+    (tie.spec
+    Inv-loop
+    μ-loop
+    get16-requires
+    loop-holds
+    lengths-requires
+    forward-requires
+    number-requires
+    verify-table-requires
+    enum-known-n
+    enum-told
+    same-length
+    returns
+    add-keys
+    add-forward
+    forward-requires-2
+    sub-left
+    loop-less
+    loop-again
+    same-length-2
+    returns-2)

@@ -1,0 +1,63 @@
+// The tables that the metaindex names.
+ghost use mathlib.Core.List.{List};
+ghost use Prim.Native.Nat.{_+_, _*_, _≤_};
+ghost use Rattle.blockfile.specs.Layout.{Entry, Table, entriesOf};
+ghost use Rattle.pages.specs.Claims.{Lent};
+ghost use Rattle.walks.specs.Found.{zeros, FindsAt};
+ghost use Rattle.walks.specs.declared.Walked.the-variants.{Done};
+ghost use Rattle.verify.specs.Tables.{NamesOn, MetaOn, TablesFound};
+use crate::table::verify_table;
+use entries::copy::number;
+use entries::place::Place;
+use entries::place::forward;
+use entries::place::lengths;
+use pages::read::get16;
+use pages::read::get32;
+use spans::Rule;
+use walks::Walked;
+
+// The page of the metaindex's skip list.
+const METAINDEX: usize = 2;
+
+// Claims and reads the tables that the entries of the metaindex's span on `page` name. With `before` keys in the tables
+// before them, answers how many keys there are.
+fn verify_named(image: &[u8], scratch: &mut [u8], page: usize, before: usize) -> Walked
+    requires { ⌜ Lent (now image) (now scratch) × ((es : List Entry) × NamesOn (now image) page es) × (before + 128 * zeros (now scratch) ≤ 524288) ⌝ }
+    ensures { λ r. ⌜ ((es : List Entry) → NamesOn (now (image .entry)) page es → FindsAt Done (TablesFound (now (image .entry)) (now (scratch .entry)) es before) r (now (scratch .exit))) ⌝ }
+{
+    let mut at = Place { page, offset: 20 };
+    let mut left = get16(image, page, 18);
+    let mut keys = before;
+    while left != 0 {
+        let g = lengths(image, at);
+        let first = g.after;
+        let value = forward(image, first, g.key);
+        let root = number(image, value);
+        let Walked::Done(n) = verify_table(image, scratch, root, Rule::Keys) else {
+            return Walked::Refused;
+        };
+        keys += n;
+        at = forward(image, first, g.key + g.value);
+        left -= 1;
+    }
+    Walked::Done(keys)
+}
+
+// Claims and reads the tables that the metaindex names; answers how many keys they have.
+pub fn verify_tables(image: &[u8], scratch: &mut [u8]) -> Walked
+    requires { ⌜ Lent (now image) (now scratch) × ((meta : Table) × MetaOn (now image) meta) ⌝ }
+    ensures { λ r. ⌜ ((meta : Table) → MetaOn (now (image .entry)) meta → FindsAt Done (TablesFound (now (image .entry)) (now (scratch .entry)) (entriesOf meta) 0) r (now (scratch .exit))) ⌝ }
+{
+    let mut page = get32(image, METAINDEX, 8);
+    let mut left = get32(image, METAINDEX, 20);
+    let mut keys = 0;
+    while left != 0 {
+        let Walked::Done(n) = verify_named(image, scratch, page, keys) else {
+            return Walked::Refused;
+        };
+        keys = n;
+        page = get32(image, page, 12);
+        left -= 1;
+    }
+    Walked::Done(keys)
+}
