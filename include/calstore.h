@@ -1,0 +1,59 @@
+/* The calibration store: calls over a card's image that the caller lends.
+ *
+ * The library keeps nothing between calls: no heap, no files, no globals. Calls may run at the same time on different memory.
+ * Link with target/staticlib/libcalstore.a, which `rt staticlib calstore` writes (Linux, x86-64).
+ *
+ * A slice is a pointer and its length in bytes. No alignment is asked of it. The pointer is not NULL, also where the length
+ * is 0, and points to that many bytes. The slices of one call do not overlap. These are the caller's duty; beyond them any
+ * bytes of any length may be given, and an answer tells what is wrong with them.
+ *
+ * The scratch is memory for the call's own work, at least as long as the image. Its first image_len bytes are 0 after
+ * every call but those that are refused with 1 or 2, which write nothing; its other bytes stay.
+ */
+#ifndef CALSTORE_H
+#define CALSTORE_H
+
+#include <stddef.h>
+#include <stdint.h>
+
+#ifdef __cplusplus
+extern "C" {
+#endif
+
+/* Why a call is refused. Where several hold, the lowest number is given. */
+enum calstore_refusal {
+    CALSTORE_DONE = 0,
+    CALSTORE_IMAGE_LENGTH = 1,    /* the image is not 4 to 4096 pages of 1024 bytes */
+    CALSTORE_SCRATCH_LENGTH = 2,  /* the scratch is shorter than the image */
+    CALSTORE_NOT_WELL_FORMED = 3, /* the image is not well-formed */
+    CALSTORE_NAME_OR_KEY = 4,     /* the name is not 1 to 255 bytes of 21 to 7e hex; the key is empty or over 65,535 bytes */
+    CALSTORE_VALUE_LENGTH = 5,    /* the value is over 65,535 bytes */
+    CALSTORE_NO_TABLE = 6,        /* there is no such table */
+    CALSTORE_TABLE_EXISTS = 7,    /* create: the table is there already */
+    CALSTORE_NO_KEY = 8,          /* there is no such key; next: there is none above */
+    CALSTORE_BUFFER_SHORT = 9,    /* the answer buffer is shorter than the answer; length is what it needs */
+    CALSTORE_NO_ROOM = 10         /* the image has too few free pages */
+};
+
+/* What a call answers. Numbers that an answer has not are 0. */
+struct calstore_answer {
+    uint32_t number; /* 0 if the call was done, else a calstore_refusal */
+    uint32_t page;   /* 0 */
+    uint64_t length; /* the length of the value or key, also with CALSTORE_BUFFER_SHORT */
+    uint64_t pages;  /* check: the pages of the image */
+    uint64_t tables; /* check: the tables */
+    uint64_t keys;   /* check: the keys in all tables */
+    uint64_t free;   /* check: the free pages */
+};
+
+/* Is the image well-formed, and what does it hold: pages, tables, keys and free pages.
+ *   image, image_len      the card's image; it is only read
+ *   scratch, scratch_len  memory for the call's own work
+ * Refusals: 1, 2, 3. */
+struct calstore_answer calstore_check(const uint8_t *image, size_t image_len, uint8_t *scratch, size_t scratch_len);
+
+#ifdef __cplusplus
+}
+#endif
+
+#endif
