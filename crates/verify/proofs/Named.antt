@@ -2,12 +2,13 @@
 use Prim.Native.Nat.{ℕ, zero, suc, _+_, _*_, _-_, _/_, _%_, _≤_, _<_}
 use native.Mathlib.Omega.{arith}
 use mathlib.Core.Path.{_≡_, refl, ap, ap₂, sym, _∙_, subst}
+use mathlib.Core.Bool.{Bool}
 use mathlib.Core.List.{List, [], _∷_, _++_, map, map-append, head-eq-of-cons-eq, tail-eq-of-cons-eq, nil≢cons, cons≢nil}
 use lib.ListN.{length, take, drop, getD, length-append, length-map, take-append-drop}
 use borrow.Author.Tests.{le-leb}
 use Rattle.blockfile.specs.Bytes.{pg, be16, be32, word32, Every, gather, firstOf}
 use Rattle.blockfile.specs.Layout.{Keyed, Entry, Span, Table, columns, spansOf, entriesOf, reached}
-use Rattle.blockfile.specs.Order.{keyRule}
+use Rattle.blockfile.specs.Order.{KeyRule, keyRule}
 use Rattle.blockfile.specs.Fields.{IsSkipList}
 use Rattle.blockfile.specs.WellFormed.{Piece, span, tower, linkSpans, spansIn, towersIn, skipListOf, TableOk, tablePieces}
 use Rattle.blockfile.proofs.Bools.{holds}
@@ -107,7 +108,7 @@ word-injective a b ha hb e = sym (be32-word32 a ha) ∙ ap (λ (w : List ℕ). b
 
 -- ---- How many keys tables can have
 
-table-few : {r : _} (t : Table) → TableOk r t → length (entriesOf t) ≤ 128 * length (ownedBy (tablePieces t))
+table-few : {r : KeyRule} (t : Table) → TableOk r t → length (entriesOf t) ≤ 128 * length (ownedBy (tablePieces t))
 table-few t ok =
     let a : length (entriesOf t) ≤ 128 * length (spansOf (columns t)) = many-entries (t .spanSize) (ok .spanSize .1) (spansOf (columns t)) (ok .sizes) in
     let b : length (spansOf (columns t)) ≤ length (ownedBy (map span (spansIn t))) = span-few (t .spanSize) 0 (spansOf (columns t)) in
@@ -131,7 +132,7 @@ tables-few img scr es n m out f =
     let o : zeros out ≡ zeros (claims scr (ownedBy (named (f .tables)))) = ap zeros (f .found .left) in
     omega (arith, named-few (f .tables) (f .ok), f .keys)
 
-pub table-fewer : {r : _} {s : _} (img scr : List ℕ) (root k : ℕ) (out : List ℕ) → TableFound r s img scr root k out → (k + 128 * zeros out ≤ 128 * zeros scr) × (length out ≡ length scr)
+pub table-fewer : {r : KeyRule} {sized : ℕ → Bool} (img scr : List ℕ) (root k : ℕ) (out : List ℕ) → TableFound r sized img scr root k out → (k + 128 * zeros out ≤ 128 * zeros scr) × (length out ≡ length scr)
 table-fewer img scr root k out f =
     let z : zeros scr ≡ length (ownedBy (tablePieces (f .table))) + zeros (claims scr (ownedBy (tablePieces (f .table)))) = zeros-claims scr (ownedBy (tablePieces (f .table))) (f .found .fresh) in
     let o : zeros out ≡ zeros (claims scr (ownedBy (tablePieces (f .table)))) = ap zeros (f .found .left) in
@@ -218,6 +219,11 @@ only-none : (img scr : List ℕ) (n m : ℕ) (out : List ℕ) (ts : List (Keyed 
 only-none img scr n m out [] q f k = (omega arith, sym (f .left))
 only-none img scr n m out (t ∷ ts) q f k = absurd (nil≢cons q)
 
+-- with no entry left, the walk is done
+names-end : (img scr : List ℕ) (n : ℕ) (G : ℕ → List ℕ → Type 0) → SameAt (TablesFound img scr [] n) G → FindsAt Done G (Done n) scr
+names-end img scr n G same =
+    finds-done Done (Done n) scr same done-injective n refl (no-names img scr n) (λ m t f. only-none img scr n m t (f .tables) (f .named) (f .found) (f .keys))
+
 pub record Naming (img scr₀ : List ℕ) (es : List Entry) (before : ℕ) (scr : List ℕ) (at : Place) (left keys : ℕ) : Type 0 where
   pub rest : List Entry
   pub along : Along img at rest
@@ -246,9 +252,7 @@ module _ {img scr₀ : List ℕ} {es : List Entry} {before : ℕ} {scr : List �
     where
       go : (rest : List Entry) → left ≡ length rest → SameAt (TablesFound img scr rest keys) (TablesFound img scr₀ es before)
           → FindsAt Done (TablesFound img scr₀ es before) (Done keys) scr
-      go [] c same =
-          finds-done Done (Done keys) scr same done-injective keys refl (no-names img scr keys)
-          (λ m t f. only-none img scr keys m t (f .tables) (f .named) (f .found) (f .keys))
+      go [] c same = names-end img scr keys (TablesFound img scr₀ es before) same
       go (e ∷ rest) c same = absurd (omega arith)
 
   -- the entry at the place, and those after it
@@ -450,9 +454,7 @@ module _ {img scr₀ : List ℕ} {meta : Table} {scr : List ℕ} {page left keys
     where
       go : (rest : List Span) → left ≡ length rest → SameAt (TablesFound img scr (entriesIn rest) keys) (TablesFound img scr₀ (entriesOf meta) 0)
           → FindsAt Done (TablesFound img scr₀ (entriesOf meta) 0) (Done keys) scr
-      go [] c same =
-          finds-done Done (Done keys) scr same done-injective keys refl (no-names img scr keys)
-          (λ m t f. only-none img scr keys m t (f .tables) (f .named) (f .found) (f .keys))
+      go [] c same = names-end img scr keys (TablesFound img scr₀ (entriesOf meta) 0) same
       go (s ∷ rest) c same = absurd (omega arith)
 
   -- the span on the page, and those after it
