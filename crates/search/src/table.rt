@@ -8,7 +8,7 @@ use entries::copy::number;
 use pages::read::get32;
 
 // The page of the metaindex's skip list, whose keys are the names of the tables.
-const METAINDEX: usize = 2;
+pub const METAINDEX: usize = 2;
 
 // The skip-list page of a table, if there is a table of the name.
 pub enum Named {

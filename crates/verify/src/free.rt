@@ -7,13 +7,10 @@ ghost use Rattle.walks.specs.Found.{FindsAt};
 ghost use Rattle.walks.specs.declared.Walked.the-variants.{Done};
 ghost use Rattle.verify.specs.Free.{ListedFound, BlockFound, FreeFound};
 use pages::claim::claim;
+use pages::mark::BLOCK;
+use pages::mark::FREE;
 use pages::read::get32;
 use walks::Walked;
-
-// The kinds by the index of their mark.
-const BLOCK: usize = 5;
-
-const FREE: usize = 6;
 
 // Claims the pages that the block on `page` lists, `count` of them.
 fn claim_listed(image: &[u8], scratch: &mut [u8], page: usize, count: usize) -> bool

@@ -11,6 +11,7 @@ use crate::superblock::verify_superblock;
 use crate::table::verify_table;
 use blockfile::Counts;
 use pages::claim::all_claimed;
+use search::table::METAINDEX;
 use spans::Rule;
 use walks::Walked;
 
@@ -19,9 +20,6 @@ pub enum Verdict {
     Bad,
     Good(Counts),
 }
-
-// The page of the metaindex's skip list.
-const METAINDEX: usize = 2;
 
 // Whether the image is well-formed. The scratch has a byte for each page, all 0.
 pub fn verify(image: &[u8], scratch: &mut [u8]) -> Verdict

@@ -13,11 +13,9 @@ use entries::place::forward;
 use entries::place::lengths;
 use pages::read::get16;
 use pages::read::get32;
+use search::table::METAINDEX;
 use spans::Rule;
 use walks::Walked;
-
-// The page of the metaindex's skip list.
-const METAINDEX: usize = 2;
 
 // Claims and reads the tables that the entries of the metaindex's span on `page` name. With `before` keys in the tables
 // before them, answers how many keys there are.

@@ -9,6 +9,7 @@ ghost use Rattle.walks.specs.Found.{Decides, FindsAt};
 ghost use Rattle.verify.specs.declared.superblock.Started.the-variants.{Begun};
 ghost use Rattle.verify.specs.Superblock.{Fixed, SuperFound};
 use pages::claim::claim;
+use pages::mark::SUPERBLOCK;
 use pages::read::get16;
 use pages::read::get32;
 
@@ -22,9 +23,6 @@ pub enum Started {
     Refused,
     Begun(Superblock),
 }
-
-// The kind by the index of its mark.
-const SUPERBLOCK: usize = 0;
 
 // Whether the version is 1.2, the file length that of the pages, and the page size 1024.
 fn is_fixed(image: &[u8], pages: usize) -> bool
