@@ -49,6 +49,28 @@ pub struct New {
 }
 
 impl<'a> Plan<'a> {
+    /// A change at a place of the target, not measured yet: all entries stay.
+    fn start(
+        table: Table,
+        path: Path,
+        change: Change,
+        at: usize,
+        key: &'a [u8],
+        size: usize,
+    ) -> Plan<'a> {
+        Plan {
+            table,
+            path,
+            change,
+            at,
+            key,
+            size,
+            stay: size,
+            continuations: 0,
+            split: None,
+        }
+    }
+
     /// The plan to put a value of this length under a key.
     pub fn put(pages: &[Page], table: Table, key: &'a [u8], value: usize) -> Plan<'a> {
         let path = table.target(pages, key);
@@ -58,17 +80,7 @@ impl<'a> Plan<'a> {
             Some(_) => (Change::Replace, old),
             None => (Change::Insert, old + 1),
         };
-        let mut plan = Plan {
-            table,
-            path,
-            change,
-            at: spot.below,
-            key,
-            size,
-            stay: size,
-            continuations: 0,
-            split: None,
-        };
+        let mut plan = Plan::start(table, path, change, spot.below, key, size);
         if size > usize::from(table.span_size) {
             plan.stay = size.div_ceil(2);
         }
@@ -82,17 +94,7 @@ impl<'a> Plan<'a> {
         let spot = search::spot(pages, path.span, key);
         spot.entry?;
         let size = size_of(pages, path.span) - 1;
-        let mut plan = Plan {
-            table,
-            path,
-            change: Change::Remove,
-            at: spot.below,
-            key,
-            size,
-            stay: size,
-            continuations: 0,
-            split: None,
-        };
+        let mut plan = Plan::start(table, path, Change::Remove, spot.below, key, size);
         plan.measure(pages, 0);
         Some(plan)
     }
