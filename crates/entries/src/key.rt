@@ -47,7 +47,7 @@ fn compare_bytes(x: &[u8], y: &[u8]) -> Order
 }
 
 // Whether all bytes are of 21 to 7e hex.
-fn printable_bytes(x: &[u8]) -> bool
+pub fn printable_bytes(x: &[u8]) -> bool
     ensures { λ r. ⌜ r ≡ allWithin 0x21 0x7e (now (x .entry)) ⌝ }
 {
     let mut i = 0;

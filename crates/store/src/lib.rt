@@ -1,15 +1,26 @@
 // The calls on a lent image. Each is for any bytes: no call has a precondition.
 ghost use mathlib.Core.List.{[]};
 ghost use mathlib.Core.Path.{_≡_};
-ghost use Rattle.blockfile.specs.Refusals.{check, refusal};
-ghost use Rattle.blockfile.specs.Calls.{Keeps, checkedReply};
+ghost use Rattle.blockfile.specs.Refusals.{check, get, next, refusal};
+ghost use Rattle.blockfile.specs.Calls.{Keeps, checkedReply, gotReply};
+use answer::hand_over;
 use blockfile::Checked;
+use blockfile::Got;
 use blockfile::Refusal;
+use legal::is_key;
+use legal::is_key_or_empty;
 use open::Opened;
 use open::open;
 use pages::claim::clear;
+use search::next::next_key;
+use search::table::find;
+use table::Entered;
+use table::open_table;
 
+mod answer;
+mod legal;
 mod open;
+mod table;
 
 // Is the image well-formed, and what does it hold.
 pub fn check(image: &[u8], scratch: &mut [u8]) -> Checked
@@ -21,6 +32,26 @@ pub fn check(image: &[u8], scratch: &mut [u8]) -> Checked
             clear(scratch, image.len());
             Checked::Sound(counts)
         }
+    }
+}
+
+// The value under the key in the table of the name, at the start of the answer buffer.
+pub fn get(image: &[u8], scratch: &mut [u8], name: &[u8], key: &[u8], answer: &mut [u8]) -> Got
+    ensures { λ r. ⌜ Keeps (get (now (name .entry)) (now (key .entry))) (now (image .entry)) (now (scratch .entry)) (now (answer .entry)) (gotReply r) (now (image .entry)) (now (scratch .exit)) (now (answer .exit)) ⌝ }
+{
+    match open_table(image, scratch, name, is_key(key)) {
+        Entered::Refused(why) => Got::Refused(why),
+        Entered::Table(page) => hand_over(image, find(image, page, key), answer),
+    }
+}
+
+// The smallest key above the given one in the table of the name, of all keys for the empty one, at the start of the answer buffer.
+pub fn next(image: &[u8], scratch: &mut [u8], name: &[u8], key: &[u8], answer: &mut [u8]) -> Got
+    ensures { λ r. ⌜ Keeps (next (now (name .entry)) (now (key .entry))) (now (image .entry)) (now (scratch .entry)) (now (answer .entry)) (gotReply r) (now (image .entry)) (now (scratch .exit)) (now (answer .exit)) ⌝ }
+{
+    match open_table(image, scratch, name, is_key_or_empty(key)) {
+        Entered::Refused(why) => Got::Refused(why),
+        Entered::Table(page) => hand_over(image, next_key(image, page, key), answer),
     }
 }
 

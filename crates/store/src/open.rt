@@ -2,6 +2,7 @@
 ghost use mathlib.Core.Path.{_≡_};
 ghost use Rattle.blockfile.specs.Calls.{lengthOk};
 ghost use Rattle.store.specs.Open.{Opens};
+use crate::legal::is_within;
 use blockfile::Counts;
 use blockfile::Refusal;
 use pages::claim::clear;
@@ -18,11 +19,7 @@ pub enum Opened {
 fn is_length(n: usize) -> bool
     ensures { λ r. ⌜ r ≡ lengthOk n ⌝ }
 {
-    let pages = n / 1024;
-    if pages < 4 {
-        return false;
-    }
-    if 4096 < pages {
+    if !is_within(4, 4096, n / 1024) {
         return false;
     }
     if n % 1024 == 0 { true } else { false }

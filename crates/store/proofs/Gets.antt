@@ -1,0 +1,106 @@
+-- Get and next: what they share is said once, of any call that reads a table.
+use Prim.Native.Nat.{ℕ}
+use mathlib.Core.Path.{_≡_, refl, sym, ap, _∙_}
+use mathlib.Core.List.{List, [], _++_}
+use mathlib.Core.Option.{none, Option·getD}
+use mathlib.Core.Bool.{Bool, true, false, not, _&&_, _||_}
+use lib.ListN.{length}
+use Rattle.blockfile.specs.declared.Got.{Got}
+use Rattle.blockfile.specs.declared.Got.the-variants.{Found, Refused as NotGot}
+use Rattle.blockfile.specs.Layout.{Layout, freeCount}
+use Rattle.blockfile.specs.Order.{keyRule, same, find, above}
+use Rattle.blockfile.specs.Refusals.{Op, get, next, Ledger, plain, ledgerOf, sought, rows, lowest, refused, handed, doneReply}
+use Rattle.blockfile.specs.Answers.{planOf, refuse, outcomeIf, outcomeOn}
+use Rattle.blockfile.specs.Calls.{gotReply, accepted, Keeps}
+use Rattle.search.specs.declared.span.Sought.{Sought}
+use Rattle.search.specs.Spans.{Answered}
+use Rattle.search.specs.Tables.{Reading, FoundIn, AboveIn}
+use Rattle.search.proofs.Seeks.{answer-as}
+use Rattle.search.proofs.Readables.{table-reading}
+use Rattle.laws.proofs.Determined.{determined}
+use Rattle.store.specs.Table.{tableRows, OnTable, Entering}
+use Rattle.store.specs.Answer.{answerRows, Hands}
+use Rattle.store.proofs.Rows.{lowest-later}
+use Rattle.store.proofs.Tables.{its-map}
+
+-- ---- A call that reads: it hands out the bytes sought in a table, and writes nothing on the image
+
+pub record ReadCall (op : Op) (name : List ℕ) (legal : Bool) : Type 0 where
+  pub are : (l : Ledger) (room : ℕ) → rows l op room ≡ tableRows l name legal ++ answerRows (sought l op) room
+  pub gives : (l : Ledger) → handed l op ≡ Option·getD (sought l op) []
+  pub replies : (l : Ledger) (free : ℕ) → doneReply l free op ≡ plain 0 (length (Option·getD (sought l op) []))
+  pub still : (L : Layout) → planOf L op ≡ none
+
+not-or : (a b : Bool) → not (a || b) ≡ (not a && not b)
+not-or true b = refl
+not-or false b = refl
+
+module _ (name key : List ℕ) (legal : Bool) where
+  pub get-reads : legal ≡ keyRule name .allowed key → ReadCall (get name key) name legal
+  get-reads e = record { are = λ l room. rw e; gives = λ l. refl; replies = λ l free. refl; still = λ L. refl }
+
+  pub next-reads : legal ≡ (same key [] || keyRule name .allowed key) → ReadCall (next name key) name legal
+  next-reads e =
+      record {
+        are = λ l room. rw (e, not-or (same key []) (keyRule name .allowed key));
+        gives = λ l. refl;
+        replies = λ l free. refl;
+        still = λ L. refl;
+      }
+
+-- ---- What the promise takes
+
+module _ {op : Op} {name : List ℕ} {legal : Bool} (reads : ReadCall op name legal) where
+  pub read-on : OnTable op name legal
+  read-on = record { more = λ l. answerRows (sought l op); are = reads .are }
+
+  module _ {img s out : List ℕ} {page : ℕ} (h : Entering img s name legal page out) where
+    -- the rows that are left are those of the answer
+    rows-left : (room : ℕ) → refused (ledgerOf (h .layout)) op room ≡ lowest (answerRows (sought (ledgerOf (h .layout)) op) room)
+    unfolding refused
+    rows-left room =
+        let l = ledgerOf (h .layout) in
+        ap lowest (reads .are l room) ∙ lowest-later (tableRows l name legal) (answerRows (sought l op) room) (h .passed)
+
+    pub read-answers : (b : List ℕ) (r : Got) (new : List ℕ) → Hands (sought (ledgerOf (h .layout)) op) b r new → Keeps op img s b (gotReply r) img out new
+    unfolding outcomeOn
+    read-answers b (NotGot f) new a =
+        record {
+          outcome = refuse f;
+          called = accepted (h .sized) (h .enough) (h .layout) (h .well) (sym (ap (outcomeIf (h .layout) op) (rows-left (length b) ∙ a .0))) (h .clear);
+          result = refl;
+          image = refl;
+          answer = a .1;
+        }
+    read-answers b (Found n) new a =
+        let l = ledgerOf (h .layout) in
+        record {
+          outcome = record { reply = plain 0 n; bytes = Option·getD (sought l op) []; writes = [] };
+          called = accepted (h .sized) (h .enough) (h .layout) (h .well)
+              (rw (rows-left (length b), a .0, reads .still (h .layout), reads .replies l (freeCount (h .layout .free)), reads .gives l, a .1))
+              (h .clear);
+          result = refl;
+          image = refl;
+          answer = a .2;
+        }
+
+-- ---- The searches
+
+module _ {img s name : List ℕ} {legal : Bool} {page : ℕ} {out : List ℕ} (h : Entering img s name legal page out) where
+  abbrev pub reading : Reading img page
+  reading = table-reading img (h .layout) (h .well) name (h .there .table) (h .there .found) page (h .there .root)
+
+  module _ (key : List ℕ) (found : Sought) where
+    pub get-finds : FoundIn img page key found → Answered img (sought (ledgerOf (h .layout)) (get name key)) found
+    get-finds f = answer-as (ap (find key) (its-map (h .layout) name (h .there .table) (h .there .found))) (f .is reading)
+
+    pub next-finds : AboveIn img page key found → Answered img (sought (ledgerOf (h .layout)) (next name key)) found
+    next-finds f = answer-as (ap (above (keyRule name) key) (its-map (h .layout) name (h .there .table) (h .there .found))) (f .is reading)
+
+-- ---- The promise determines the numbers of the answer and every byte of scratch and answer buffer
+
+pub read-determined : (op : Op) (img s b : List ℕ) (r q : Got) (t u c d : List ℕ)
+    → Keeps op img s b (gotReply r) img t c → Keeps op img s b (gotReply q) img u d → (gotReply r ≡ gotReply q) × (t ≡ u) × (c ≡ d)
+read-determined op img s b r q t u c d k h =
+    let e = determined op img s b (gotReply r) (gotReply q) img img t u c d k h in
+    (e .0, e .2, e .3)

@@ -1,0 +1,46 @@
+// What the calls on a table do first: the refusals 1 to 4, and 6.
+ghost use Rattle.blockfile.specs.WellFormed.{Accepted};
+ghost use Rattle.store.specs.Table.{NamedTable, Enters};
+use crate::legal::is_name;
+use crate::open::Opened;
+use crate::open::open;
+use blockfile::Refusal;
+use pages::claim::clear;
+use search::table::Named;
+use search::table::find_table;
+
+// Refused, or the skip-list page of the table.
+pub enum Entered {
+    Refused(Refusal),
+    Table(usize),
+}
+
+// Finds the table on an accepted image; `legal` tells whether the call's key is allowed.
+fn named_table(image: &[u8], name: &[u8], legal: bool) -> Entered
+    requires { ⌜ Accepted (now image) ⌝ }
+    ensures { λ r. ⌜ NamedTable (now (image .entry)) (now (name .entry)) legal r ⌝ }
+{
+    if !legal {
+        return Entered::Refused(Refusal::NameOrKey);
+    }
+    if !is_name(name) {
+        return Entered::Refused(Refusal::NameOrKey);
+    }
+    let Named::Root(page) = find_table(image, name) else {
+        return Entered::Refused(Refusal::NoTable);
+    };
+    Entered::Table(page)
+}
+
+// Verifies the image and finds the table. The scratch is cleared on every way out, since nothing after this needs it.
+pub fn open_table(image: &[u8], scratch: &mut [u8], name: &[u8], legal: bool) -> Entered
+    ensures { λ r. ⌜ Enters (now (image .entry)) (now (scratch .entry)) (now (name .entry)) legal r (now (scratch .exit)) ⌝ }
+{
+    match open(image, scratch) {
+        Opened::Refused(why) => Entered::Refused(why),
+        Opened::Accepted(_) => {
+            clear(scratch, image.len());
+            named_table(image, name, legal)
+        }
+    }
+}
