@@ -26,7 +26,7 @@ enum calstore_refusal {
     CALSTORE_IMAGE_LENGTH = 1,    /* the image is not 4 to 4096 pages of 1024 bytes */
     CALSTORE_SCRATCH_LENGTH = 2,  /* the scratch is shorter than the image */
     CALSTORE_NOT_WELL_FORMED = 3, /* the image is not well-formed */
-    CALSTORE_NAME_OR_KEY = 4,     /* the name is not 1 to 255 bytes of 21 to 7e hex; the key is empty or over 65,535 bytes */
+    CALSTORE_NAME_OR_KEY = 4,     /* the name is not 1 to 255 bytes of 21 to 7e hex; the key is empty (but for next) or over 65,535 bytes */
     CALSTORE_VALUE_LENGTH = 5,    /* the value is over 65,535 bytes */
     CALSTORE_NO_TABLE = 6,        /* there is no such table */
     CALSTORE_TABLE_EXISTS = 7,    /* create: the table is there already */
@@ -51,6 +51,26 @@ struct calstore_answer {
  *   scratch, scratch_len  memory for the call's own work
  * Refusals: 1, 2, 3. */
 struct calstore_answer calstore_check(const uint8_t *image, size_t image_len, uint8_t *scratch, size_t scratch_len);
+
+/* The value under a key in a table.
+ *   image, image_len      the card's image; it is only read
+ *   scratch, scratch_len  memory for the call's own work
+ *   name, name_len        the table's name
+ *   key, key_len          the key
+ *   answer, answer_len    the value is written at its start; its other bytes stay, with a refusal all of them
+ * length is the value's length, at most 65,535. With CALSTORE_BUFFER_SHORT it is the length that the answer buffer needs; an
+ * answer buffer of length 0 asks for it.
+ * Refusals: 1, 2, 3, 4, 6, 8, 9. */
+struct calstore_answer calstore_get(const uint8_t *image, size_t image_len, uint8_t *scratch, size_t scratch_len,
+                                    const uint8_t *name, size_t name_len, const uint8_t *key, size_t key_len,
+                                    uint8_t *answer, size_t answer_len);
+
+/* The smallest key above the given one in a table, by unsigned bytes, a proper prefix first. The empty key (key_len 0) asks for
+ * the first key, so that the keys of a table are gone through by giving back the key before, until CALSTORE_NO_KEY.
+ * Slices, length and refusals are those of get; the key is written at the start of answer. */
+struct calstore_answer calstore_next(const uint8_t *image, size_t image_len, uint8_t *scratch, size_t scratch_len,
+                                     const uint8_t *name, size_t name_len, const uint8_t *key, size_t key_len,
+                                     uint8_t *answer, size_t answer_len);
 
 #ifdef __cplusplus
 }

@@ -1,9 +1,10 @@
 // The calls for C and Rust, as include/calstore.h declares them.
 ghost use mathlib.Core.List.{[]};
-ghost use Rattle.blockfile.specs.Refusals.{check, refusal};
-ghost use Rattle.blockfile.specs.Calls.{checkedReply};
+ghost use Rattle.blockfile.specs.Refusals.{check, get, next, plain, refusal};
+ghost use Rattle.blockfile.specs.Calls.{checkedReply, gotReply};
 ghost use Rattle.calstore.specs.Answers.{Bears, Answers};
 use blockfile::Checked;
+use blockfile::Got;
 use blockfile::Refusal;
 
 // The numbers of a result; those that an answer has not are 0.
@@ -18,19 +19,26 @@ pub struct Answer {
     pub free: u64,
 }
 
-fn refused(why: Refusal) -> Answer
-    ensures { λ r. ⌜ Bears (refusal why) r ⌝ }
+// A number and a length, and nothing else.
+fn plain(number: u32, length: usize) -> Answer
+    ensures { λ r. ⌜ Bears (plain number length) r ⌝ }
 {
-    let numbers = store::numbers_of(why);
     Answer {
-        number: numbers.0,
+        number,
         page: 0,
-        length: numbers.1 as u64,
+        length: length as u64,
         pages: 0,
         tables: 0,
         keys: 0,
         free: 0,
     }
+}
+
+fn refused(why: Refusal) -> Answer
+    ensures { λ r. ⌜ Bears (refusal why) r ⌝ }
+{
+    let numbers = store::numbers_of(why);
+    plain(numbers.0, numbers.1)
 }
 
 fn checked(found: Checked) -> Answer
@@ -50,9 +58,44 @@ fn checked(found: Checked) -> Answer
     }
 }
 
+fn got(found: Got) -> Answer
+    ensures { λ r. ⌜ Bears (gotReply found) r ⌝ }
+{
+    match found {
+        Got::Found(length) => plain(0, length),
+        Got::Refused(why) => refused(why),
+    }
+}
+
 #[no_mangle]
 pub extern "C" fn calstore_check(image: &[u8], scratch: &mut [u8]) -> Answer
     ensures { λ r. ⌜ Answers check (now (image .entry)) (now (scratch .entry)) [] r (now (image .entry)) (now (scratch .exit)) [] ⌝ }
 {
     checked(store::check(image, scratch))
+}
+
+#[no_mangle]
+pub extern "C" fn calstore_get(
+    image: &[u8],
+    scratch: &mut [u8],
+    name: &[u8],
+    key: &[u8],
+    answer: &mut [u8],
+) -> Answer
+    ensures { λ r. ⌜ Answers (get (now (name .entry)) (now (key .entry))) (now (image .entry)) (now (scratch .entry)) (now (answer .entry)) r (now (image .entry)) (now (scratch .exit)) (now (answer .exit)) ⌝ }
+{
+    got(store::get(image, scratch, name, key, answer))
+}
+
+#[no_mangle]
+pub extern "C" fn calstore_next(
+    image: &[u8],
+    scratch: &mut [u8],
+    name: &[u8],
+    key: &[u8],
+    answer: &mut [u8],
+) -> Answer
+    ensures { λ r. ⌜ Answers (next (now (name .entry)) (now (key .entry))) (now (image .entry)) (now (scratch .entry)) (now (answer .entry)) r (now (image .entry)) (now (scratch .exit)) (now (answer .exit)) ⌝ }
+{
+    got(store::next(image, scratch, name, key, answer))
 }
