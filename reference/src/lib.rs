@@ -26,6 +26,7 @@ pub mod library;
 pub mod page;
 pub mod program;
 pub mod random;
+pub mod reading;
 pub mod request;
 pub mod rule;
 pub mod samples;

@@ -9,9 +9,10 @@
 use reference::compare::cases::Source;
 use reference::compare::programs::Program;
 use reference::compare::tally::{calls_table, images_table, Tally};
-use reference::compare::{images, lists, long_lists};
+use reference::compare::{images, lengths, lists, long_lists, present_lengths, read_lists};
 use reference::fuzz::Failure;
 use reference::library::LIBRARY;
+use reference::reading::LONGEST;
 use reference::request::CallKind;
 use reference::rule::Rule;
 use std::thread;
@@ -22,19 +23,23 @@ const IMAGES: u64 = 24_000;
 const LISTS: u64 = 4_000;
 /// How many long lists of calls are run.
 const LONG_LISTS: u64 = 60;
+/// How many lists of gets and nexts are run.
+const READ_LISTS: u64 = 20_000;
+/// How many lengths keys have that are put and read, up to the greatest.
+const PRESENT: u64 = 2_114;
 
 type Compare = fn(&Program, u64, u64) -> Result<Tally, Failure>;
 
-/// Compares the library on `count` seeds, in two threads.
-fn in_two(count: u64, compare: Compare) -> Tally {
+/// Compares the library on `count` seeds from `first` on, in two threads.
+fn in_two(first: u64, count: u64, compare: Compare) -> Tally {
     let half = count / 2;
-    let run = |seed| {
-        let tally = compare(&LIBRARY, seed, half);
+    let run = |seed, count| {
+        let tally = compare(&LIBRARY, seed, count);
         tally.unwrap_or_else(|failure| panic!("seed {}: {}", failure.seed, failure.what))
     };
     thread::scope(|scope| {
-        let other = scope.spawn(|| run(1 + half));
-        let mut tally = run(1);
+        let other = scope.spawn(|| run(first + half, count - half));
+        let mut tally = run(first, half);
         tally.add(other.join().expect("no difference"));
         tally
     })
@@ -42,7 +47,7 @@ fn in_two(count: u64, compare: Compare) -> Tally {
 
 #[test]
 fn images_are_checked_alike() {
-    let tally = in_two(IMAGES, images);
+    let tally = in_two(1, IMAGES, images);
     println!("{}", images_table(&tally));
     println!("{}", calls_table(&tally.calls));
     let damaged = |source: &Source| matches!(source, Source::Damaged(_));
@@ -61,10 +66,39 @@ fn images_are_checked_alike() {
 
 #[test]
 fn lists_of_calls_have_the_same_outcome() {
-    let mut tally = in_two(LISTS, lists);
-    tally.add(in_two(LONG_LISTS, long_lists));
+    let mut tally = in_two(1, LISTS, lists);
+    tally.add(in_two(1, LONG_LISTS, long_lists));
     println!("{}", calls_table(&tally.calls));
     for kind in CallKind::ALL {
         assert!(tally.calls[&(kind, 0)] > 500, "{kind}");
     }
+}
+
+#[test]
+fn gets_and_nexts_have_the_same_outcome() {
+    let tally = in_two(1, READ_LISTS, read_lists);
+    println!("{}", calls_table(&tally.calls));
+    for kind in [CallKind::Get, CallKind::Next] {
+        for number in [0, 4, 6, 8, 9] {
+            assert!(tally.calls[&(kind, number)] > 500, "{kind} {number}");
+        }
+    }
+}
+
+#[test]
+fn names_and_keys_of_every_length_have_the_same_outcome() {
+    let tally = in_two(0, LONGEST as u64 + 1, lengths);
+    println!("{}", calls_table(&tally.calls));
+    // a get with each key over 65,535 bytes and with each name over 255
+    let too_long = tally.calls[&(CallKind::Get, 4)];
+    assert!(too_long >= LONGEST as u64 - 65_535 + LONGEST as u64 - 255);
+}
+
+#[test]
+fn keys_of_many_lengths_are_found() {
+    let tally = in_two(0, PRESENT, present_lengths);
+    println!("{}", calls_table(&tally.calls));
+    // all that were put; of the answer buffers one in four is short
+    assert!(tally.calls[&(CallKind::Get, 0)] > PRESENT);
+    assert!(tally.calls[&(CallKind::Next, 0)] > 2 * PRESENT);
 }

@@ -12,6 +12,7 @@ use crate::generate::Knobs;
 use crate::ledger::{tables_of, Ledger, Said};
 use crate::page::pages_of;
 use crate::random::Random;
+use crate::reading;
 use crate::request::Request;
 use crate::script::{self, Script};
 use programs::{Outcome, Program, REFERENCE};
@@ -21,7 +22,7 @@ use tally::{Called, Tally};
 /// each.
 pub fn images(program: &Program, seed: u64, count: u64) -> Result<Tally, Failure> {
     let mut tally = Tally::default();
-    for seed in (0..count).map(|step| seed.wrapping_add(step)) {
+    for seed in seeds(seed, count) {
         let case = cases::case(seed);
         let compare = |request: &Request| {
             let outcome = compare_call(program, &case.image, request);
@@ -44,13 +45,9 @@ pub fn images(program: &Program, seed: u64, count: u64) -> Result<Tally, Failure
 /// Runs `count` lists of calls by both programs, for the seeds from `seed` on: the lists that
 /// `fuzz` runs.
 pub fn lists(program: &Program, seed: u64, count: u64) -> Result<Tally, Failure> {
-    let mut tally = Tally::default();
-    for seed in (0..count).map(|step| seed.wrapping_add(step)) {
-        let script = script::script(seed, CALLS);
-        let failure = |what| Failure { seed, what };
-        list(program, &script, &mut tally.calls).map_err(failure)?;
-    }
-    Ok(tally)
+    all_lists(program, seeds(seed, count), |seed| {
+        script::script(seed, CALLS)
+    })
 }
 
 /// How many calls a long list has.
@@ -67,11 +64,55 @@ pub fn long_lists(program: &Program, seed: u64, count: u64) -> Result<Tally, Fai
         crowded: 0,
         ..Knobs::mixed()
     };
+    all_lists(program, seeds(seed, count), |seed| {
+        script::script_on(&mut Random::new(seed), &knobs, LONG)
+    })
+}
+
+/// How many calls a list of gets and nexts has.
+const READS: usize = 6;
+
+/// Runs `count` lists of gets and nexts by both programs, for the seeds from `seed` on: with names
+/// and keys near to those that the images have.
+pub fn read_lists(program: &Program, seed: u64, count: u64) -> Result<Tally, Failure> {
+    all_lists(program, seeds(seed, count), |seed| {
+        reading::near(seed, READS)
+    })
+}
+
+/// Runs gets and nexts by both programs with names and keys of `count` lengths from `first` on.
+pub fn lengths(program: &Program, first: u64, count: u64) -> Result<Tally, Failure> {
+    all_lists(program, seeds(first, count), |length| {
+        reading::of_length(length as usize)
+    })
+}
+
+/// Of the lengths of keys that are put and read, one in so many.
+const STRIDE: u64 = 31;
+
+/// Runs puts, gets and nexts by both programs with keys of `count` lengths, each `STRIDE` above the
+/// one before, from `1 + STRIDE * first` on.
+pub fn present_lengths(program: &Program, first: u64, count: u64) -> Result<Tally, Failure> {
+    all_lists(program, seeds(first, count), |step| {
+        reading::present((1 + STRIDE * step) as usize)
+    })
+}
+
+/// `count` seeds from the first one on.
+fn seeds(first: u64, count: u64) -> impl Iterator<Item = u64> {
+    (0..count).map(move |step| first.wrapping_add(step))
+}
+
+/// Runs the lists of these seeds by both programs.
+fn all_lists(
+    program: &Program,
+    seeds: impl Iterator<Item = u64>,
+    script: impl Fn(u64) -> Script,
+) -> Result<Tally, Failure> {
     let mut tally = Tally::default();
-    for seed in (0..count).map(|step| seed.wrapping_add(step)) {
-        let script = script::script_on(&mut Random::new(seed), &knobs, LONG);
+    for seed in seeds {
         let failure = |what| Failure { seed, what };
-        list(program, &script, &mut tally.calls).map_err(failure)?;
+        list(program, &script(seed), &mut tally.calls).map_err(failure)?;
     }
     Ok(tally)
 }
