@@ -2,12 +2,21 @@
 
 use reference::calls::Answer;
 use reference::compare::programs::{Program, TWIN};
-use reference::compare::{images, lists};
+use reference::compare::{images, lengths, lists, present_lengths, read_lists};
+use reference::entries::MAX_LENGTH;
 use reference::twin;
 
 /// What is found on some images and lists.
 fn found(program: &Program) -> Result<(), String> {
     let outcome = images(program, 1, 300).and_then(|_| lists(program, 1, 60));
+    outcome.map(|_| ()).map_err(|failure| failure.what)
+}
+
+/// What is found on some lists of gets and nexts.
+fn found_reading(program: &Program) -> Result<(), String> {
+    let outcome = read_lists(program, 1, 300)
+        .and_then(|_| lengths(program, MAX_LENGTH as u64 - 20, 40))
+        .and_then(|_| present_lengths(program, 0, 30));
     outcome.map(|_| ()).map_err(|failure| failure.what)
 }
 
@@ -19,6 +28,7 @@ fn assert_found(program: Program, what: &str) {
 #[test]
 fn the_twin_is_right() {
     found(&TWIN).expect("no difference");
+    found_reading(&TWIN).expect("no difference");
 }
 
 #[test]
@@ -128,4 +138,26 @@ fn a_length_needed_that_is_wrong() {
     };
     let next = Some(next as _);
     assert_found(Program { next, ..TWIN }, "expected");
+}
+
+#[test]
+fn a_key_that_is_too_long() {
+    let get = |image: &[u8], scratch: &mut [u8], name: &[u8], key: &[u8], into: &mut [u8]| {
+        let key = &key[..key.len().min(MAX_LENGTH)];
+        twin::get(image, scratch, name, key, into)
+    };
+    let get = Some(get as _);
+    let found = found_reading(&Program { get, ..TWIN }).expect_err("a difference");
+    assert!(found.contains("number: 4"), "{found}");
+}
+
+#[test]
+fn an_exact_buffer_that_is_refused() {
+    let next = |image: &[u8], scratch: &mut [u8], name: &[u8], key: &[u8], into: &mut [u8]| {
+        let short = into.len().saturating_sub(1);
+        twin::next(image, scratch, name, key, &mut into[..short])
+    };
+    let next = Some(next as _);
+    let found = found_reading(&Program { next, ..TWIN }).expect_err("a difference");
+    assert!(found.contains("number: 9"), "{found}");
 }

@@ -147,10 +147,13 @@ fn split_calls(keys: usize) -> Vec<(&'static str, Call)> {
     ]
 }
 
-fn large_calls(_: usize) -> Vec<(&'static str, Call)> {
+fn large_calls(keys: usize) -> Vec<(&'static str, Call)> {
     let key = cards::small_key;
     vec![
-        ("get 65,535 bytes", get(key(0))),
+        ("get first key, 65,535 bytes", get(key(0))),
+        ("get last key, 65,535 bytes", get(key(keys - 1))),
+        ("get missing key", get(missing(keys / 2))),
+        ("next of a key", next(key(keys / 2))),
         ("put, 65,535 bytes replaced", put(key(0), MAX_LENGTH)),
         ("put, 65,535 bytes by 4", put(key(0), 4)),
         ("put, new key, 65,535 bytes", put(missing(0), MAX_LENGTH)),
