@@ -2,6 +2,7 @@
 
 use super::cards::{self, Filling};
 use crate::entries::MAX_LENGTH;
+use crate::layout::Table;
 use crate::request::{Call, Request};
 
 /// The sizes of the images, in pages.
@@ -57,14 +58,13 @@ fn case(call: &'static str, image_name: &'static str, image: Vec<u8>, request: C
     }
 }
 
-/// The other calls, on images with some free pages and on full ones.
+/// The other calls, on images with some free pages and on full ones, beside check alone.
 pub fn call_cases() -> Vec<Case> {
     let mut cases = Vec::new();
     for pages in SIZES.into_iter().skip(1) {
         for (filling, free, calls) in CALLS {
             let sample = cards::sample(filling, pages, pages - free);
-            let keys = sample.layout.tables[0].1.keys();
-            for (name, call) in calls(keys) {
+            for (name, call) in calls(&sample.layout.tables[0].1) {
                 cases.push(case(name, filling.name(), sample.image.clone(), call));
             }
         }
@@ -72,8 +72,8 @@ pub fn call_cases() -> Vec<Case> {
     cases
 }
 
-/// Calls on a table with so many keys.
-type CallsOn = fn(usize) -> Vec<(&'static str, Call)>;
+/// Calls on a table.
+type CallsOn = fn(&Table) -> Vec<(&'static str, Call)>;
 
 /// What fills an image, about how many pages are free, and the calls to make.
 const CALLS: [(Filling, usize, CallsOn); 5] = [
@@ -116,10 +116,18 @@ fn missing(place: usize) -> Vec<u8> {
     key
 }
 
-fn small_calls(keys: usize) -> Vec<(&'static str, Call)> {
+/// The last key of a table.
+fn last_key(table: &Table) -> Vec<u8> {
+    let last = table.entries().last();
+    last.map_or(Vec::new(), |entry| entry.key.clone())
+}
+
+fn small_calls(table: &Table) -> Vec<(&'static str, Call)> {
+    let keys = table.keys();
     let last = keys - 1;
     let key = cards::small_key;
     vec![
+        ("check", Call::Check),
         ("get first key", get(key(0))),
         ("get last key", get(key(last))),
         ("get missing key", get(missing(keys / 2))),
@@ -137,7 +145,8 @@ fn small_calls(keys: usize) -> Vec<(&'static str, Call)> {
     ]
 }
 
-fn split_calls(keys: usize) -> Vec<(&'static str, Call)> {
+fn split_calls(table: &Table) -> Vec<(&'static str, Call)> {
+    let keys = table.keys();
     vec![
         ("put, new key, split", put(missing(keys / 2), 4)),
         (
@@ -147,13 +156,14 @@ fn split_calls(keys: usize) -> Vec<(&'static str, Call)> {
     ]
 }
 
-fn large_calls(keys: usize) -> Vec<(&'static str, Call)> {
+fn large_calls(table: &Table) -> Vec<(&'static str, Call)> {
     let key = cards::small_key;
     vec![
+        ("check", Call::Check),
         ("get first key, 65,535 bytes", get(key(0))),
-        ("get last key, 65,535 bytes", get(key(keys - 1))),
-        ("get missing key", get(missing(keys / 2))),
-        ("next of a key", next(key(keys / 2))),
+        ("get last key", get(last_key(table))),
+        ("get missing key", get(missing(table.keys() / 2))),
+        ("next of the first key", next(key(0))),
         ("put, 65,535 bytes replaced", put(key(0), MAX_LENGTH)),
         ("put, 65,535 bytes by 4", put(key(0), 4)),
         ("put, new key, 65,535 bytes", put(missing(0), MAX_LENGTH)),
@@ -161,17 +171,19 @@ fn large_calls(keys: usize) -> Vec<(&'static str, Call)> {
     ]
 }
 
-fn crowded_calls(_: usize) -> Vec<(&'static str, Call)> {
+fn crowded_calls(_: &Table) -> Vec<(&'static str, Call)> {
     vec![
         ("put, no room", put(missing(0), MAX_LENGTH)),
         ("create, no room", create(b"another")),
     ]
 }
 
-fn tower_calls(keys: usize) -> Vec<(&'static str, Call)> {
+fn tower_calls(table: &Table) -> Vec<(&'static str, Call)> {
+    let keys = table.keys();
     let last = keys - 1;
     let key = cards::small_key;
     vec![
+        ("check", Call::Check),
         ("get last key", get(key(last))),
         ("put, new key, no split", put(missing(keys / 2), 4)),
         ("remove, span unlinked", remove(key(last / 2))),
