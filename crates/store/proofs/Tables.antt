@@ -20,7 +20,7 @@ use Rattle.search.specs.Tables.{NamedAs}
 use Rattle.store.specs.declared.open.Opened.{Opened}
 use Rattle.store.specs.declared.open.Opened.the-variants.{Refused as Unopened}
 use Rattle.store.specs.declared.table.Entered.{Entered}
-use Rattle.store.specs.declared.table.Entered.the-variants.{Refused, Table as Root·page}
+use Rattle.store.specs.declared.table.Entered.the-variants.{Refused, Found}
 use Rattle.store.specs.Open.{Opening, Opens}
 use Rattle.store.specs.Table.{tableRows, OnTable, NamedTable, Entering, Enters}
 use Rattle.store.proofs.Opens.{ends}
@@ -60,7 +60,7 @@ module _ (img name : List ℕ) (legal : Bool) where
     pub unknown : r ≡ Unknown → NamedTable img name legal (Refused NoTable)
     unknown e = record { is = λ L w. rw (ok, good, no-table L name (n .is L w .unknown e)) }
 
-    pub known : (page : ℕ) → r ≡ Root page → NamedTable img name legal (Root·page page)
+    pub known : (page : ℕ) → r ≡ Root page → NamedTable img name legal (Found page)
     known page e =
         record {
           is = λ L w.
@@ -83,7 +83,7 @@ module _ (img s name : List ℕ) (legal : Bool) where
       let first : lowest (rows l op room) ≡ some f
       = ap lowest (on .are l room) ∙ lowest-first (tableRows l name legal) (on .more l room) f (n .is (o .layout) (o .well)) in
       accepted (o .sized) (o .enough) (o .layout) (o .well) (sym (ap (outcomeIf (o .layout) op) first)) (ends (length img) s mid out (o .past) clear)
-  entered c mid out o clear (Root·page page) n =
+  entered c mid out o clear (Found page) n =
       let t = n .is (o .layout) (o .well) in
       record {
         sized = o .sized;
@@ -109,5 +109,5 @@ module _ (img s name : List ℕ) (legal : Bool) (r : Entered) (out : List ℕ) (
         answer = refl;
       }
 
-  pub table-goes-on : (page : ℕ) → r ≡ Root·page page → Entering img s name legal page out
+  pub table-goes-on : (page : ℕ) → r ≡ Found page → Entering img s name legal page out
   table-goes-on page e = subst (λ (x : Entered). Enters img s name legal x out) e enters

@@ -14,7 +14,7 @@ use Rattle.blockfile.specs.Refusals.{Op, Ledger, ledgerOf, badName, noTable, ro
 use Rattle.blockfile.specs.Answers.{refuse}
 use Rattle.blockfile.specs.Calls.{lengthOk, cleared, Called}
 use Rattle.store.specs.declared.table.Entered.{Entered}
-use Rattle.store.specs.declared.table.Entered.the-variants.{Refused, Table as Root}
+use Rattle.store.specs.declared.table.Entered.the-variants.{Refused, Found}
 
 -- rows 4 and 6 of the refusal table, for a call whose key is allowed or not
 abbrev pub tableRows : Ledger → (name : List ℕ) → (legal : Bool) → List (Bool × Refusal)
@@ -34,7 +34,7 @@ pub record TableIn (L : Layout) (name : List ℕ) (page : ℕ) : Type 0 where
 -- refused by these rows, or none of them holds and the table is found
 abbrev pub NamedIn : Layout → (name : List ℕ) → (legal : Bool) → Entered → Type 0
 NamedIn L name legal (Refused f) = lowest (tableRows (ledgerOf L) name legal) ≡ some f
-NamedIn L name legal (Root page) = (lowest (tableRows (ledgerOf L) name legal) ≡ none) × TableIn L name page
+NamedIn L name legal (Found page) = (lowest (tableRows (ledgerOf L) name legal) ≡ none) × TableIn L name page
 
 pub record NamedTable (img name : List ℕ) (legal : Bool) (r : Entered) : Type 0 where
   pub is : (L : Layout) → WellFormed img L → NamedIn L name legal r
@@ -52,4 +52,4 @@ pub record Entering (img scratch name : List ℕ) (legal : Bool) (page : ℕ) (o
 -- a refusal is the outcome of every call on a table; else the call goes on
 abbrev pub Enters : (img scratch name : List ℕ) (legal : Bool) → Entered → (out : List ℕ) → Type 0
 Enters img scratch name legal (Refused f) out = (op : Op) → OnTable op name legal → (room : ℕ) → Called op img scratch room (refuse f) out
-Enters img scratch name legal (Root page) out = Entering img scratch name legal page out
+Enters img scratch name legal (Found page) out = Entering img scratch name legal page out

@@ -41,7 +41,7 @@ pub fn get(image: &[u8], scratch: &mut [u8], name: &[u8], key: &[u8], answer: &m
 {
     match open_table(image, scratch, name, is_key(key)) {
         Entered::Refused(why) => Got::Refused(why),
-        Entered::Table(page) => hand_over(image, find(image, page, key), answer),
+        Entered::Found(page) => hand_over(image, find(image, page, key), answer),
     }
 }
 
@@ -51,7 +51,7 @@ pub fn next(image: &[u8], scratch: &mut [u8], name: &[u8], key: &[u8], answer: &
 {
     match open_table(image, scratch, name, is_key_or_empty(key)) {
         Entered::Refused(why) => Got::Refused(why),
-        Entered::Table(page) => hand_over(image, next_key(image, page, key), answer),
+        Entered::Found(page) => hand_over(image, next_key(image, page, key), answer),
     }
 }
 

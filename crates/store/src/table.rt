@@ -12,7 +12,7 @@ use search::table::find_table;
 // Refused, or the skip-list page of the table.
 pub enum Entered {
     Refused(Refusal),
-    Table(usize),
+    Found(usize),
 }
 
 // Finds the table on an accepted image; `legal` tells whether the call's key is allowed.
@@ -29,7 +29,7 @@ fn named_table(image: &[u8], name: &[u8], legal: bool) -> Entered
     let Named::Root(page) = find_table(image, name) else {
         return Entered::Refused(Refusal::NoTable);
     };
-    Entered::Table(page)
+    Entered::Found(page)
 }
 
 // Verifies the image and finds the table. The scratch is cleared on every way out, since nothing after this needs it.
