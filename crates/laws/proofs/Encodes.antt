@@ -39,7 +39,7 @@ slice-mid p m q f t e g =
     ap (drop f) (ap (take t) (sym (append-assoc p m q)) ∙ take-at (p ++ m) q t (length-append p m ∙ ap (λ (k : ℕ). k + length m) e ∙ g)) ∙ drop-at p m f e
 
 -- numbers one after another
-numbers-mid : (ns p q : List ℕ) (k : ℕ) → length p ≡ k → Every (λ n. n < 4294967296) ns → Numbers (p ++ (gather word32 ns ++ q)) k ns
+pub numbers-mid : (ns p q : List ℕ) (k : ℕ) → length p ≡ k → Every (λ n. n < 4294967296) ns → Numbers (p ++ (gather word32 ns ++ q)) k ns
 numbers-mid [] p q k e h = tt
 numbers-mid (n ∷ ns) p q k e h =
     let w : p ++ ((word32 n ++ gather word32 ns) ++ q) ≡ p ++ (word32 n ++ (gather word32 ns ++ q)) = ap (λ (l : List ℕ). p ++ l) (append-assoc (word32 n) (gather word32 ns) q) in (
@@ -48,7 +48,7 @@ numbers-mid (n ∷ ns) p q k e h =
           (numbers-mid ns (p ++ word32 n) q (k + 4) (length-append p (word32 n) ∙ omega (arith, length-word32 n)) (h .1)),
     )
 
-length-numbers32 : (ns : List ℕ) → length (gather word32 ns) ≡ 4 * length ns
+pub length-numbers32 : (ns : List ℕ) → length (gather word32 ns) ≡ 4 * length ns
 length-numbers32 [] = refl
 length-numbers32 (n ∷ ns) = length-append (word32 n) (gather word32 ns) ∙ omega (arith, length-word32 n, length-numbers32 ns)
 

@@ -39,6 +39,13 @@ module _ {img₀ : List ℕ} {n o : ℕ} {bs : List ℕ} {w a : ℕ} {img : List
   stored-all l h =
       rw (write-from img₀ n o bs h) (s .is ∙ ap (sets img₀ a) (take-all i bs (omega (arith, s .whole))) ∙ ap (λ (k : ℕ). sets img₀ k bs) (s .start))
 
+-- four bytes stored one after another
+pub sets-four : (l : List ℕ) (a x y z w : ℕ) → set (set (set (set l a x) (a + 1) y) (a + 2) z) (a + 3) w ≡ sets l a (x ∷ y ∷ z ∷ w ∷ [])
+sets-four l a x y z w =
+    let two : a + 2 ≡ suc (suc a) = omega arith in
+    let three : a + 3 ≡ suc (suc (suc a)) = omega arith in
+    rw (add-one a, two, three)
+
 -- the stores of a number's two and four bytes
 module _ (img : List ℕ) (n o : ℕ) (h : 1 ≤ n) where
   pub put-two : (x y : ℕ) → set (set img (1024 * (n - 1) + o) x) (1024 * (n - 1) + o + 1) y ≡ write img n o (x ∷ y ∷ [])
@@ -47,11 +54,7 @@ module _ (img : List ℕ) (n o : ℕ) (h : 1 ≤ n) where
   pub put-four : (x y z w : ℕ)
       → set (set (set (set img (1024 * (n - 1) + o) x) (1024 * (n - 1) + o + 1) y) (1024 * (n - 1) + o + 2) z) (1024 * (n - 1) + o + 3) w
       ≡ write img n o (x ∷ y ∷ z ∷ w ∷ [])
-  put-four x y z w =
-      let a : ℕ = 1024 * (n - 1) + o in
-      let two : a + 2 ≡ suc (suc a) = omega arith in
-      let three : a + 3 ≡ suc (suc (suc a)) = omega arith in
-      rw (write-from img n o (x ∷ y ∷ z ∷ w ∷ []) h, add-one a, two, three)
+  put-four x y z w = rw (write-from img n o (x ∷ y ∷ z ∷ w ∷ []) h) (sets-four img (1024 * (n - 1) + o) x y z w)
 
 -- ---- a page of a stream
 

@@ -4,7 +4,8 @@ ghost use lib.ListN.{length, getD};
 ghost use Rattle.blockfile.specs.Bytes.{pg, be16, be32};
 ghost use Rattle.pages.specs.Places.{Inside, Number};
 
-fn byte(image: &[u8], at: usize) -> usize
+// A byte of any slice.
+pub fn byte(image: &[u8], at: usize) -> usize
     requires { ⌜ at < length (now image) ⌝ }
     ensures { λ r. ⌜ Number (getD (now (image .entry)) at 0) 256 r ⌝ }
 {

@@ -1,0 +1,2 @@
+// Pages for a call that writes: the list of their numbers.
+pub mod list;

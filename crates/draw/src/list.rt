@@ -1,0 +1,31 @@
+// A list of page numbers in a buffer, four bytes each, big endian.
+ghost use mathlib.Core.Path.{_≡_};
+ghost use Prim.Native.Nat.{_+_, _*_, _≤_};
+ghost use lib.ListN.{length};
+ghost use lib.Seq.{sets};
+ghost use Rattle.blockfile.specs.Bytes.{be32, word32};
+ghost use Rattle.pages.specs.Places.{Number};
+use pages::read::byte;
+
+// The number at an index of the list.
+pub fn number_at(numbers: &[u8], i: usize) -> usize
+    requires { ⌜ 4 * i + 4 ≤ length (now numbers) ⌝ }
+    ensures { λ r. ⌜ Number (be32 (now (numbers .entry)) (4 * i)) 4294967296 r ⌝ }
+{
+    let at = 4 * i;
+    let high = byte(numbers, at) * 256 + byte(numbers, at + 1);
+    let low = byte(numbers, at + 2) * 256 + byte(numbers, at + 3);
+    high * 65536 + low
+}
+
+// Stores a number at an index of the list.
+pub fn set_number(numbers: &mut [u8], i: usize, v: usize)
+    requires { ⌜ 4 * i + 4 ≤ length (now numbers) ⌝ }
+    ensures { λ _. ⌜ now (numbers .exit) ≡ sets (now (numbers .entry)) (4 * i) (word32 v) ⌝ }
+{
+    let at = 4 * i;
+    numbers[at] = (v / 16777216 % 256) as u8;
+    numbers[at + 1] = (v / 65536 % 256) as u8;
+    numbers[at + 2] = (v / 256 % 256) as u8;
+    numbers[at + 3] = (v % 256) as u8;
+}
