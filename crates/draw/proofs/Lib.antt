@@ -1,1 +1,4 @@
 pub mod Writes
+pub mod Hands
+pub mod Chains
+pub mod Gives
