@@ -2,3 +2,5 @@ pub mod Writes
 pub mod Hands
 pub mod Chains
 pub mod Gives
+pub mod Listings
+pub mod Keeps

@@ -1,59 +1,37 @@
+-- `draw::draw::keep_pages` meets its contract. The loop's invariant is `Keeping`.
+use Prim.Native.Nat.{_-_}
+use native.Mathlib.Omega.{arith}
+use mathlib.Core.Path.{_≡_}
+use borrow.Author.Tests.{not-true, not-false, eqb-true, eqb-false}
+use Rattle.draw.proofs.Keeps.{Keeping, keeping-start, keeping-inside, keeping-next, keeping-end}
 use Rattle.draw.proofs.draw.keep_pages.Statement.{statement}
 use Rattle.draw.proofs.draw.keep_pages.Tie as tie
-use Rattle.draw.proofs.draw.keep_pages.Reads as reads
-use Rattle.draw.proofs.draw.keep_pages.Lts as lts
-use Rattle.draw.proofs.list.set_number.Reads as set-number-reads
-use Rattle.pages.proofs.read.get32.Reads as get32-reads
 
 abbrev Inv-loop : tie.InvT-loop
-Inv-loop image first wanted numbers₀ from next₀ count₀ numbers next count = ?
+Inv-loop image first wanted numbers₀ from next₀ count₀ numbers next count = Keeping image first wanted numbers₀ from numbers next count
 
 abbrev μ-loop : tie.MeasureT-loop
-μ-loop image first wanted numbers₀ from next₀ count₀ numbers next count = ?
+μ-loop image first wanted numbers₀ from next₀ count₀ numbers next count = wanted - count
 
--- src/draw.rt:24:5
-loop-holds : tie.Need-loop-holds Inv-loop μ-loop
-loop-holds c = ?
+-- the chain goes on here
+some : (c : tie.Then1 Inv-loop μ-loop) → c .before .before .loop .next ≡ 0 → ⊥
+some c = eqb-false _ _ (not-true _ (c .if1 .taken))
 
--- src/draw.rt:25:29
-add-set-number : tie.Need-add-set-number Inv-loop μ-loop
-add-set-number c = ?
-
--- src/draw.rt:25:9
-set-number-requires : tie.Need-set-number-requires Inv-loop μ-loop
-set-number-requires c κs = ?
-
--- src/draw.rt:26:9
 get32-requires : tie.Need-get32-requires Inv-loop μ-loop
-get32-requires c κs = ?
+get32-requires c κs =
+    let t = c .before .before .before .before in
+    keeping-inside _ _ _ _ _ _ _ _ (t .before .before .loop .inv) (t .before .before .before .before .before .pre .0) (some t)
 
--- src/draw.rt:27:9
-add-count : tie.Need-add-count Inv-loop μ-loop
-add-count c = ?
-
--- src/draw.rt:24:5
-loop-less : tie.Need-loop-less Inv-loop μ-loop
-loop-less c = ?
-
--- src/draw.rt:24:5
 loop-again : tie.Need-loop-again Inv-loop μ-loop
-loop-again c = ?
+loop-again c =
+    let t = c .before .before .before .before .before in
+    keeping-next _ _ _ _ _ _ _ _ (t .before .before .loop .inv) (t .before .loop-test .taken) (some t) _ (c .before .before .before .set-number .ensures) _ (c .get32 .ensures .is)
 
--- src/draw.rt:18:1
-same-length : tie.Need-same-length Inv-loop μ-loop
-same-length c = ?
-
--- src/draw.rt:18:1
 returns : tie.Need-returns Inv-loop μ-loop
-returns c = ?
+returns c = keeping-end _ _ _ _ _ _ _ _ (c .before .before .loop .inv) (λ l. eqb-true _ _ (not-false _ (c .if1 .left)))
 
--- src/draw.rt:18:1
-same-length-2 : tie.Need-same-length-2 Inv-loop μ-loop
-same-length-2 c = ?
-
--- src/draw.rt:18:1
 returns-2 : tie.Need-returns-2 Inv-loop μ-loop
-returns-2 c = ?
+returns-2 c = keeping-end _ _ _ _ _ _ _ _ (c .before .loop .inv) (λ l. absurd (omega (arith, c .loop-test .left)))
 
 pub keep-pages-spec : {M : Type 1} → statement M
 keep-pages-spec =
@@ -61,14 +39,14 @@ keep-pages-spec =
     (tie.spec
     Inv-loop
     μ-loop
-    loop-holds
-    add-set-number
-    set-number-requires
+    (λ c. keeping-start _ _ _ _ _)
+    (λ c. omega arith)
+    (λ c κs. omega arith)
     get32-requires
-    add-count
-    loop-less
+    (λ c. omega arith)
+    (λ c. omega arith)
     loop-again
-    same-length
+    (λ c. c .before .before .loop .inv .size)
     returns
-    same-length-2
+    (λ c. c .before .loop .inv .size)
     returns-2)
