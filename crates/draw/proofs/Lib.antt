@@ -4,3 +4,4 @@ pub mod Chains
 pub mod Gives
 pub mod Listings
 pub mod Keeps
+pub mod Takes

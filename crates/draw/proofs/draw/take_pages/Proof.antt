@@ -1,55 +1,26 @@
+-- `draw::draw::take_pages` meets its contract. The loop's invariant is `Taking`: the pages that are left make up the rest.
+use Prim.Native.Nat.{_-_}
+use native.Mathlib.Omega.{arith}
+use Rattle.draw.proofs.Takes.{Taking, takeable, taking-start, taking-next, taking-end}
 use Rattle.draw.proofs.draw.take_pages.Statement.{statement}
 use Rattle.draw.proofs.draw.take_pages.Tie as tie
-use Rattle.draw.proofs.draw.take_pages.Reads as reads
-use Rattle.draw.proofs.draw.take_pages.Lts as lts
-use Rattle.draw.proofs.list.set_number.Reads as set-number-reads
-use Rattle.pages.proofs.free.take_page.Reads as take-page-reads
 
 abbrev Inv-loop : tie.InvT-loop
-Inv-loop image₀ count numbers₀ from i₀ image numbers i = ?
+Inv-loop image₀ count numbers₀ from i₀ image numbers i = Taking image₀ count numbers₀ from image numbers i
 
 abbrev μ-loop : tie.MeasureT-loop
-μ-loop image₀ count numbers₀ from i₀ image numbers i = ?
+μ-loop image₀ count numbers₀ from i₀ image numbers i = count - i
 
--- src/draw.rt:38:5
-loop-holds : tie.Need-loop-holds Inv-loop μ-loop
-loop-holds c = ?
-
--- src/draw.rt:39:13
 take-page-requires : tie.Need-take-page-requires Inv-loop μ-loop
-take-page-requires c κs = ?
+take-page-requires c κs =
+    let l = c .before in
+    takeable _ (omega (arith, l .loop-test .taken)) (l .before .loop .inv .left (l .before .before .before .before .pre .0) .stock)
 
--- src/draw.rt:40:29
-add-set-number : tie.Need-add-set-number Inv-loop μ-loop
-add-set-number c = ?
-
--- src/draw.rt:40:9
-set-number-requires : tie.Need-set-number-requires Inv-loop μ-loop
-set-number-requires c κs = ?
-
--- src/draw.rt:41:9
-add-i : tie.Need-add-i Inv-loop μ-loop
-add-i c = ?
-
--- src/draw.rt:38:5
-loop-less : tie.Need-loop-less Inv-loop μ-loop
-loop-less c = ?
-
--- src/draw.rt:38:5
 loop-again : tie.Need-loop-again Inv-loop μ-loop
-loop-again c = ?
-
--- src/draw.rt:33:1
-same-length : tie.Need-same-length Inv-loop μ-loop
-same-length c = ?
-
--- src/draw.rt:33:1
-same-length-2 : tie.Need-same-length-2 Inv-loop μ-loop
-same-length-2 c = ?
-
--- src/draw.rt:33:1
-returns : tie.Need-returns Inv-loop μ-loop
-returns c = ?
+loop-again c =
+    let t = c .before .before .before .before .before .before in
+    let l = t .before .before in
+    taking-next _ _ _ _ _ _ _ (l .before .loop .inv) (l .before .before .before .before .pre .0) (l .loop-test .taken) _ _ (t .take-page .ensures) _ (c .before .before .set-number .ensures)
 
 pub take-pages-spec : {M : Type 1} → statement M
 take-pages-spec =
@@ -57,13 +28,13 @@ take-pages-spec =
     (tie.spec
     Inv-loop
     μ-loop
-    loop-holds
+    (λ c. taking-start _ _ _ _)
     take-page-requires
-    add-set-number
-    set-number-requires
-    add-i
-    loop-less
+    (λ c. omega arith)
+    (λ c κs. omega arith)
+    (λ c. omega arith)
+    (λ c. omega arith)
     loop-again
-    same-length
-    same-length-2
-    returns)
+    (λ c. c .before .loop .inv .size)
+    (λ c. c .before .loop .inv .long)
+    (λ c. taking-end _ _ _ _ _ _ _ (c .before .loop .inv) (c .loop-test .left)))
