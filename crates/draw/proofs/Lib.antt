@@ -5,3 +5,4 @@ pub mod Gives
 pub mod Listings
 pub mod Keeps
 pub mod Takes
+pub mod Draws
