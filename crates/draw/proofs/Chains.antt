@@ -1,16 +1,16 @@
 -- Continuation pages along their links.
-use Prim.Native.Nat.{ℕ, zero, suc, _+_, _*_, _<_, _≤_}
+use Prim.Native.Nat.{ℕ, zero, suc, _+_, _<_, _≤_}
 use native.Mathlib.Omega.{arith}
-use mathlib.Core.Path.{_≡_, refl, ap, sym, _∙_, subst}
+use mathlib.Core.Path.{_≡_, refl, ap}
 use mathlib.Core.Bool.{cond}
-use mathlib.Core.List.{List, [], _∷_, _++_, map}
-use lib.ListN.{length, getD, drop}
+use mathlib.Core.List.{List, [], _∷_, map}
+use lib.ListN.{length, drop}
 use lib.Dec.{eqb}
 use borrow.Author.Tests.{ne-eqb}
 use Rattle.blockfile.specs.Bytes.{pg, be32, Every, firstOf}
 use Rattle.blockfile.specs.Fields.{AreConts}
 use Rattle.pages.specs.Places.{Inside}
-use Rattle.draw.specs.Hands.{InHand, Chained}
+use Rattle.draw.specs.Hands.{Chained}
 use Rattle.draw.specs.Writing.{PageOf}
 use Rattle.draw.proofs.Hands.{hand-pages, hand-few}
 

@@ -2,20 +2,19 @@
 use Prim.Native.Nat.{ℕ, _+_, _*_, _-_, _<_, _≤_}
 use native.Mathlib.Omega.{arith}
 use native.Mathlib.Decide.{decLt}
-use mathlib.Core.Path.{_≡_, refl, ap, sym, _∙_, subst}
+use mathlib.Core.Path.{_≡_, ap, sym, _∙_, subst}
 use mathlib.Core.Logic.{by-cases}
-use mathlib.Core.List.{List, [], _∷_, _++_, map, append-nil}
+use mathlib.Core.List.{List, [], _++_, map, append-nil}
 use lib.ListN.{length, take, drop, length-take, take-append-drop, drop-of-length-le}
-use Rattle.blockfile.specs.Bytes.{pg, apply, Every, firstOf}
-use Rattle.blockfile.specs.Layout.{Block, freeCount}
+use Rattle.blockfile.specs.Bytes.{pg, apply, Every}
 use Rattle.blockfile.specs.Fields.{Numbers, AreConts}
-use Rattle.blockfile.specs.WellFormed.{Piece, count}
+use Rattle.blockfile.specs.WellFormed.{count}
 use Rattle.blockfile.specs.Free.{Drawn, takeMany, giveMany, draw}
 use Rattle.blockfile.proofs.Count.{count-append}
 use Rattle.laws.proofs.Writes.{apply-append}
 use Rattle.laws.proofs.Steps.{Holds, in-hand, hand-small}
 use Rattle.laws.proofs.Opens.{allPieces}
-use Rattle.laws.proofs.Draws.{Few, take-many, few-taken, none-given, length-drawn}
+use Rattle.laws.proofs.Draws.{take-many, few-taken, none-given, length-drawn}
 use Rattle.draw.specs.declared.draw.Kept.{Kept}
 use Rattle.draw.specs.Hands.{InHand, Chained, stored, Keeps, KeptFor, Stocked, TookAll, GaveChain, Drawable, drawn, Drew}
 use Rattle.draw.proofs.Chains.{conts-drop}

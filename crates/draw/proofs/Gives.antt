@@ -1,23 +1,23 @@
 -- A chain of continuation pages given back, page by page.
-use Prim.Native.Nat.{ℕ, zero, suc, _+_, _*_, _<_, _≤_}
+use Prim.Native.Nat.{ℕ, suc, _+_, _<_, _≤_}
 use native.Mathlib.Omega.{arith}
 use mathlib.Core.Path.{_≡_, refl, ap, sym, _∙_, subst}
 use mathlib.Core.Logic.{_≢_}
 use mathlib.Core.Bool.{Bool, true, false, cond}
 use mathlib.Core.List.{List, [], _∷_, _++_, map}
-use lib.ListN.{length, drop}
+use lib.ListN.{length}
 use lib.Dec.{ltb, lit≤}
 use borrow.Author.Tests.{ltb-true}
-use Rattle.blockfile.specs.Bytes.{pg, be32, word32, Write, apply, Every, firstOf}
+use Rattle.blockfile.specs.Bytes.{pg, be32, word32, apply, firstOf}
 use Rattle.blockfile.specs.Marks.{blockMark, freeMark}
 use Rattle.blockfile.specs.Layout.{Block}
 use Rattle.blockfile.specs.Fields.{AreConts}
 use Rattle.blockfile.specs.WellFormed.{Piece, superblock, block, freePage, freePieces, firstBlock, count}
-use Rattle.blockfile.specs.Free.{Drawn, listPage, newBlock, givePage, giveMany}
+use Rattle.blockfile.specs.Free.{listPage, newBlock, givePage, giveMany}
 use Rattle.blockfile.proofs.Count.{count-here, count-append, every-counted}
 use Rattle.blockfile.proofs.Owned.{ownedBy}
 use Rattle.laws.proofs.Numbers.{length-word32}
-use Rattle.laws.proofs.Writes.{Fits, Spares, apply-append, length-apply, pg-apply-other}
+use Rattle.laws.proofs.Writes.{apply-append, length-apply, pg-apply-other}
 use Rattle.laws.proofs.Steps.{Holds, Kept, map-kept, at-most-once, piece-owned}
 use Rattle.laws.proofs.Opens.{allPieces}
 use Rattle.laws.proofs.Draws.{give-one, few-given}
@@ -49,7 +49,7 @@ module _ (p z : ℕ) (things : List Piece) (img : List ℕ) (x : ℕ) (sp : List
   listed-stays b bs h l =
       let top : List Piece = superblock p (b .page) z ∷ things in
       let not : n ≢ b .page = not-owned (allPieces p z things (b ∷ bs)) h (b .page)
-          (omega (arith, piece-owned top (map freePage (b .listed) ++ freePieces bs) (block b (firstBlock bs)) (b .page) [] refl)) in
+      (omega (arith, piece-owned top (map freePage (b .listed) ++ freePieces bs) (block b (firstBlock bs)) (b .page) [] refl)) in
       pg-apply-other n (listPage x b bs .writes) img
       (unfold freeMark in (lit≤ tt), (omega (arith, length-word32 x), (omega (arith, length-word32 (length (b .listed) + 1)), tt)))
       (not-given (b ∷ bs) h, (not, (not, tt)))

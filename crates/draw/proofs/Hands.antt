@@ -1,15 +1,14 @@
 -- Pages in hand: they are pages of the image, no more than it has, and the bytes show its free list.
-use Prim.Native.Nat.{ℕ, zero, suc, _+_, _*_, _<_, _≤_}
+use Prim.Native.Nat.{ℕ, zero, suc, _+_, _<_, _≤_}
 use native.Mathlib.Omega.{arith}
 use native.Mathlib.Decide.{ℕ-discrete}
-use mathlib.Core.Path.{_≡_, refl, ap, sym, _∙_, subst}
+use mathlib.Core.Path.{_≡_, refl, ap, sym, _∙_}
 use mathlib.Core.Bool.{Bool, _&&_, cond}
 use mathlib.Core.List.{List, [], _∷_, _++_}
 use lib.ListN.{length}
 use lib.Dec.{eqb, leb}
 use borrow.Author.Tests.{eq-eqb, ne-eqb, le-leb}
 use Rattle.blockfile.specs.Bytes.{pg, Every}
-use Rattle.blockfile.specs.Layout.{Block}
 use Rattle.blockfile.specs.Order.{Within, within}
 use Rattle.blockfile.specs.WellFormed.{Piece, Bears, freePieces, count}
 use Rattle.blockfile.proofs.Bools.{bit-low}
@@ -17,7 +16,7 @@ use Rattle.blockfile.proofs.Every.{every-right}
 use Rattle.blockfile.proofs.Count.{count-append, every-counted}
 use Rattle.blockfile.proofs.Owned.{ownedBy, count-owned}
 use Rattle.laws.specs.FreeList.{FreeList, freePages}
-use Rattle.laws.proofs.Steps.{Holds, in-range, lies-in, at-most-once}
+use Rattle.laws.proofs.Steps.{in-range, lies-in, at-most-once}
 use Rattle.laws.proofs.Opens.{allPieces}
 use Rattle.draw.specs.Hands.{InHand}
 use Rattle.draw.specs.Writing.{PageOf}

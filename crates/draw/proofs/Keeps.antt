@@ -1,16 +1,15 @@
 -- Old continuation pages kept, page by page.
-use Prim.Native.Nat.{ℕ, zero, suc, _+_, _*_, _<_, _≤_}
+use Prim.Native.Nat.{ℕ, _+_, _*_, _<_, _≤_}
 use native.Mathlib.Omega.{arith}
 use native.Mathlib.Numerals.{add-one}
 use native.Mathlib.Decide.{decLt}
-use mathlib.Core.Path.{_≡_, refl, ap, sym, _∙_, subst}
+use mathlib.Core.Path.{_≡_, refl, ap, sym, _∙_}
 use mathlib.Core.Logic.{by-cases}
-use mathlib.Core.List.{List, [], _∷_, _++_}
+use mathlib.Core.List.{List, [], _∷_}
 use lib.ListN.{length, getD, take, drop, length-take, drop-of-length-le}
 use lib.Seq.{sets, length-sets, take-suc, take-all, drop-cons}
 use Rattle.blockfile.specs.Bytes.{pg, be32, word32, firstOf}
 use Rattle.pages.specs.Places.{Inside}
-use Rattle.draw.specs.declared.draw.Kept.{Kept}
 use Rattle.draw.specs.Hands.{Chained, stored, Keeps, KeptFor}
 use Rattle.draw.proofs.Chains.{conts-link, first-some, chain-inside}
 use Rattle.draw.proofs.Listings.{stored-append, stored-one}

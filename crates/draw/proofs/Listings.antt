@@ -1,15 +1,15 @@
 -- Numbers stored one after another in a list.
-use Prim.Native.Nat.{ℕ, suc, _+_, _*_, _<_, _≤_}
+use Prim.Native.Nat.{ℕ, _+_, _*_, _<_, _≤_}
 use native.Mathlib.Omega.{arith}
-use mathlib.Core.Path.{_≡_, refl, ap, sym, _∙_, subst}
+use mathlib.Core.Path.{_≡_, ap, sym, _∙_, subst}
 use mathlib.Core.Logic.{_⊎_, inl, inr}
 use mathlib.Core.List.{List, [], _∷_, _++_, append-assoc, append-nil}
-use lib.ListN.{length, getD, take, drop, length-take}
+use lib.ListN.{length, take, drop, length-take}
 use lib.Seq.{sets, sets-eq}
-use Rattle.blockfile.specs.Bytes.{be32, word32, Every, gather}
+use Rattle.blockfile.specs.Bytes.{word32, Every, gather}
 use Rattle.blockfile.specs.Fields.{Numbers}
 use Rattle.laws.proofs.Lists.{Apart, sets-append, agree-off}
-use Rattle.laws.proofs.Numbers.{be32-agree, length-word32}
+use Rattle.laws.proofs.Numbers.{be32-agree}
 use Rattle.laws.proofs.Places.{gather-append}
 use Rattle.laws.proofs.FreeRead.{numbers-at}
 use Rattle.laws.proofs.Written.{numbers-from}
