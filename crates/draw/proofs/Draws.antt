@@ -1,5 +1,5 @@
 -- Pages drawn: old pages kept, the others taken, and the old pages that are left over given back.
-use Prim.Native.Nat.{ℕ, _+_, _*_, _-_, _<_, _≤_}
+use Prim.Native.Nat.{ℕ, _+_, _*_, _-_, _<_, _≤_, min}
 use native.Mathlib.Omega.{arith}
 use native.Mathlib.Decide.{decLt}
 use mathlib.Core.Path.{_≡_, ap, sym, _∙_, subst}
@@ -35,11 +35,14 @@ module _ (m w : ℕ) (old taken sp : List ℕ) where
 -- ---- The three steps
 
 module _ {img : List ℕ} {start wanted : ℕ} {numbers : List ℕ} {at : ℕ} {r : Kept} {list : List ℕ} (kept : KeptFor img start wanted numbers at r list) where
+  kept-count : (c : Chained img start) → r .count ≡ min wanted (length (c .old))
+  kept-count c = kept .is c .count ∙ length-take wanted (c .old)
+
   pub kept-most : Chained img start → r .count ≤ wanted
-  kept-most c = let e : r .count ≡ length (take wanted (c .old)) = kept .is c .count in omega (arith, length-take wanted (c .old))
+  kept-most c = omega (arith, kept-count c)
 
   kept-rest : (c : Chained img start) → wanted - r .count ≡ wanted - length (c .old)
-  kept-rest c = let e : r .count ≡ length (take wanted (c .old)) = kept .is c .count in omega (arith, length-take wanted (c .old))
+  kept-rest c = omega (arith, kept-count c)
 
   -- the other pages can be taken
   pub rest-stocked : Drawable img start wanted → Stocked img (wanted - r .count)
