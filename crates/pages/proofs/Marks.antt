@@ -1,21 +1,21 @@
 -- Marks: the code's table is the text's, and what it means that a page begins with a mark.
 use Prim.Native.Nat.{ℕ, zero, suc, _+_, _*_, _-_, _≤_, _<_}
-use mathlib.Core.Bool.{Bool, true, false, _&&_, _||_, not, cond}
+use mathlib.Core.Bool.{Bool, true, false, _&&_, _||_, not, cond, true≢false}
 use mathlib.Core.List.{List, [], _∷_}
 use mathlib.Core.Path.{_≡_, refl, ap, ap₂, sym, _∙_, subst}
 use native.Mathlib.Nat.{le-of-suc-le-suc, not-suc-le-zero}
 use native.Mathlib.Numerals.{add-one}
 use native.Mathlib.Omega.{arith}
-use lib.ListN.{length, take, drop, getD}
+use lib.ListN.{length, take, drop, getD, length-take, length-drop}
 use lib.Seq.{drop-cons, getD-take, getD-drop}
 use borrow.Author.Tests.{eq-eqb, ne-eqb, eqb-true, eqb-false}
 use lib.Dec.{T, eqb, leb, eqb→eq, leb→le}
-use Rattle.blockfile.specs.Bytes.{pg}
+use Rattle.blockfile.specs.Bytes.{pg, be16, be32}
 use Rattle.blockfile.specs.Marks.{marks, superMark, skipMark, towerMark, spanMark, contMark, blockMark, freeMark}
 use Rattle.blockfile.specs.Order.{same}
 use Rattle.blockfile.proofs.Bools.{and-both, same-eq}
-use Rattle.laws.proofs.Pages.{pg-at, length-pg}
-use Rattle.pages.specs.Begins.{begins, firstMark, kindOf}
+use Rattle.laws.proofs.Pages.{pg-from, length-pg}
+use Rattle.pages.specs.Begins.{number, begins, firstMark, kindOf}
 
 -- ---- the table, by one computed test over all kinds
 
@@ -87,50 +87,139 @@ take-begins [] b e = refl
 take-begins (x ∷ m) [] e = absurd (let z : _≡_ {A = ℕ} 0 1 = cc in omega arith)
 take-begins (x ∷ m) (y ∷ b) e = let q : y ≡ x = cc in rw (eq-eqb y x q) (take-begins m b (cc))
 
--- ---- a loop that compares the mark m, n bytes long, with b has found i bytes alike
+-- ---- a mark compared as numbers
 
-pub record Matched (m b : List ℕ) (n i : ℕ) : Type 0 where
-  pub whole : length m ≡ n
-  pub most : i ≤ n
-  pub short : n ≤ 8
-  pub rest : begins (drop i m) (drop i b) ≡ begins m b
+-- the elements are bytes
+abbrev pub Bytes : List ℕ → Type 0
+Bytes b = (i : ℕ) → getD b i 0 < 256
 
-module _ (img : List ℕ) (p k : ℕ) (low : 1 ≤ p) (high : 1024 * p ≤ length img) (h : k < 7) where
-  abbrev Found : ℕ → Type 0
-  Found i = Matched (getD marks k []) (pg img p) (getD lengths k 0) i
+bytes-take : (n : ℕ) (b : List ℕ) → Bytes b → Bytes (take n b)
+bytes-take zero b h i = omega arith
+bytes-take (suc n) [] h i = omega arith
+bytes-take (suc n) (x ∷ b) h zero = h 0
+bytes-take (suc n) (x ∷ b) h (suc i) = bytes-take n b (λ j. h (suc j)) i
 
-  pub matched-none : Found 0
-  matched-none = record { whole = mark-length k h; most = omega arith; short = mark-short k h; rest = refl }
+bytes-drop : (n : ℕ) (b : List ℕ) → Bytes b → Bytes (drop n b)
+bytes-drop n b h i = rw (getD-drop n b i 0) (h (n + i))
 
-  module _ (i : ℕ) (s : Found i) (l : i < getD lengths k 0) where
-    here : begins (drop i (getD marks k [])) (drop i (pg img p))
-        ≡ eqb (getD img (1024 * (p - 1) + i) 0) (getD table (8 * k + i) 0) && begins (drop (i + 1) (getD marks k [])) (drop (i + 1) (pg img p))
-    unfolding begins
-    here =
-        let a : i < length (getD marks k []) = omega (arith, s .whole) in
-        let b : i < length (pg img p) = omega (arith, length-pg img p low high, s .short) in
-        rw (drop-cons (getD marks k []) i 0 a, drop-cons (pg img p) i 0 b, pg-at img p i low (omega (arith, s .short)), ← mark-at k h i l, add-one i)
+abbrev bytesOk : List ℕ → Bool
+bytesOk [] = true
+bytesOk (x ∷ b) = leb (suc x) 256 && bytesOk b
 
-    pub matched-more : getD img (1024 * (p - 1) + i) 0 ≡ getD table (8 * k + i) 0 → Found (i + 1)
-    matched-more e = record {
-      whole = s .whole;
-      most = omega arith;
-      short = s .short;
-      rest = sym (sym (s .rest) ∙ here ∙ rw (eq-eqb _ _ e));
-    }
+bytes-of : (b : List ℕ) → T (bytesOk b) → Bytes b
+bytes-of [] t i = omega arith
+bytes-of (x ∷ b) t zero = leb→le _ _ (and-both (leb (suc x) 256) (bytesOk b) t .0)
+bytes-of (x ∷ b) t (suc i) = bytes-of b (and-both (leb (suc x) 256) (bytesOk b) t .1) i
 
-    pub matched-not : (getD img (1024 * (p - 1) + i) 0 ≡ getD table (8 * k + i) 0 → ⊥) → false ≡ begins (getD marks k []) (pg img p)
-    matched-not e = sym (sym (s .rest) ∙ here ∙ rw (ne-eqb _ _ e))
+-- THE NUMBERS ARE EQUAL EXACTLY IF THE BYTES ARE
+number-begins : (m b : List ℕ) (a c : ℕ) → Bytes m → Bytes b → length m ≤ length b → number a (take (length m) b) ≡ number c m → (a ≡ c) × (begins m b ≡ true)
+unfolding number begins
+number-begins [] b a c h l k e = (e, refl)
+number-begins (x ∷ m) [] a c h l k e = absurd (not-suc-le-zero k)
+number-begins (x ∷ m) (y ∷ b) a c h l k e =
+    let r : (a * 256 + y ≡ c * 256 + x) × (begins m b ≡ true)
+    = number-begins m b (a * 256 + y) (c * 256 + x) (λ i. h (suc i)) (λ i. l (suc i)) (le-of-suc-le-suc k) e
+    in
+    (omega (arith, r .0, h 0, l 0), rw (eq-eqb y x (omega (arith, r .0, h 0, l 0))) (r .1))
 
-begins-end : (m b : List ℕ) (i : ℕ) → length m ≤ i → begins (drop i m) b ≡ true
+equal-begins : (m b : List ℕ) → Bytes m → Bytes b → length m ≤ length b → eqb (number 0 (take (length m) b)) (number 0 m) ≡ begins m b
+equal-begins m b h l k = go (begins m b) refl
+  where
+    go : (t : Bool) → begins m b ≡ t → eqb (number 0 (take (length m) b)) (number 0 m) ≡ t
+    go true e = eq-eqb _ _ (ap (number 0) (begins-take m b e))
+    go false e = ne-eqb _ _ (λ n. true≢false (sym (number-begins m b 0 0 h l k n .1) ∙ e))
+
+begins-parts : (n : ℕ) (m b : List ℕ) → begins m b ≡ begins (take n m) b && begins (drop n m) (drop n b)
 unfolding begins
-begins-end [] b zero h = refl
-begins-end [] b (suc i) h = refl
-begins-end (x ∷ m) b zero h = absurd (not-suc-le-zero h)
-begins-end (x ∷ m) b (suc i) h = begins-end m b i (le-of-suc-le-suc h)
+begins-parts zero m b = refl
+begins-parts (suc n) [] b = refl
+begins-parts (suc n) (x ∷ m) [] = refl
+begins-parts (suc n) (x ∷ m) (y ∷ b) = go (eqb y x) (begins-parts n m b)
+  where
+    go : (t : Bool) → begins m b ≡ begins (take n m) b && begins (drop n m) (drop n b)
+        → t && begins m b ≡ (t && begins (take n m) b) && begins (drop n m) (drop n b)
+    go true e = e
+    go false e = refl
 
-pub matched-all : {m b : List ℕ} {n i : ℕ} → Matched m b n i → n ≤ i → true ≡ begins m b
-matched-all {m} {b} {n} {i} s l = sym (begins-end m (drop i b) i (omega (arith, s .whole))) ∙ s .rest
+pub number-be16 : (b : List ℕ) (o : ℕ) → o + 2 ≤ length b → be16 b o ≡ number 0 (take 2 (drop o b))
+unfolding be16 number
+number-be16 b o h = rw (drop-cons b o 0 (omega arith), drop-cons b (suc o) 0 (omega arith), add-one o) (omega arith)
+
+pub number-be32 : (b : List ℕ) (o : ℕ) → o + 4 ≤ length b → be32 b o ≡ number 0 (take 4 (drop o b))
+unfolding be16 be32 number
+number-be32 b o h =
+    let two : o + 2 ≡ suc (suc o) = omega arith in
+    rw (drop-cons b o 0 (omega arith), drop-cons b (suc o) 0 (omega arith), drop-cons b (suc (suc o)) 0 (omega arith), drop-cons b (suc (suc (suc o))) 0 (omega arith), two, add-one o, add-one (suc (suc o)))
+    (omega arith)
+
+-- ---- the numbers of the code, by one computed test over all kinds
+
+abbrev starts : List ℕ
+starts = 0x3141de49 ∷ 0x536b6970 ∷ 0x42534c65 ∷ 0x5370616e ∷ 0x434f4e54 ∷ 0x2366724c ∷ 0x7e214652 ∷ []
+
+abbrev rests : List ℕ
+rests = 0x3250 ∷ 0x4c697374 ∷ 0x76656c73 ∷ 0 ∷ 0 ∷ 0x69737423 ∷ 0x4545217e ∷ []
+
+module _ (k : ℕ) (h : k < 7) where
+  pub start-is : (j : ℕ) → k ≡ j → getD starts j 0 ≡ number 0 (take 4 (getD marks k []))
+  unfolding number superMark skipMark towerMark spanMark contMark blockMark freeMark
+  start-is j e = rw (sym e) (eqb→eq _ _ (at (λ k. eqb (getD starts k 0) (number 0 (take 4 (getD marks k [])))) 7 tt k h))
+
+  pub rest-is : (j : ℕ) → k ≡ j → getD rests j 0 ≡ number 0 (drop 4 (getD marks k []))
+  unfolding number superMark skipMark towerMark spanMark contMark blockMark freeMark
+  rest-is j e = rw (sym e) (eqb→eq _ _ (at (λ k. eqb (getD rests k 0) (number 0 (drop 4 (getD marks k [])))) 7 tt k h))
+
+  mark-bytes : Bytes (getD marks k [])
+  unfolding superMark skipMark towerMark spanMark contMark blockMark freeMark
+  mark-bytes = bytes-of (getD marks k []) (at (λ k. bytesOk (getD marks k [])) 7 tt k h)
+
+  mark-long : 4 ≤ getD lengths k 0
+  mark-long = leb→le _ _ (at (λ k. leb 4 (getD lengths k 0)) 7 tt k h)
+
+  -- how many bytes the mark has after the first four
+  pub rest-length : (j : ℕ) → k ≡ j → length (drop 4 (getD marks k [])) ≡ getD lengths j 0 - 4
+  rest-length j e = rw (sym e) (length-drop 4 (getD marks k []) ∙ ap (λ (n : ℕ). n - 4) (mark-length k h))
+
+  pub rest-four : (k ≡ 0 → ⊥) → (k ≡ 3 → ⊥) → (k ≡ 4 → ⊥) → length (drop 4 (getD marks k [])) ≡ 4
+  rest-four a b c =
+      let long : T (eqb k 0 || (eqb k 3 || (eqb k 4 || eqb (getD lengths k 0) 8)))
+      = at (λ k. eqb k 0 || (eqb k 3 || (eqb k 4 || eqb (getD lengths k 0) 8))) 7 tt k h
+      in
+      let eight : getD lengths k 0 ≡ 8 = eqb→eq _ _ (rw (ne-eqb k 0 a, ne-eqb k 3 b, ne-eqb k 4 c) at long) in
+      rw eight at (rest-length k refl)
+
+module _ (img : List ℕ) (p k : ℕ) (low : 1 ≤ p) (high : 1024 * p ≤ length img) (h : k < 7) (known : Bytes img) where
+  page-bytes : Bytes (pg img p)
+  page-bytes = rw (pg-from img p low) (bytes-take 1024 (drop (1024 * (p - 1)) img) (bytes-drop (1024 * (p - 1)) img known))
+
+  -- THE PAGE BEARS THE MARK EXACTLY IF THE NUMBERS ARE EQUAL
+  bears-numbers : begins (getD marks k []) (pg img p)
+      ≡ eqb (be32 (pg img p) 0) (number 0 (take 4 (getD marks k []))) && eqb (number 0 (take (length (drop 4 (getD marks k []))) (drop 4 (pg img p)))) (number 0 (drop 4 (getD marks k [])))
+  bears-numbers =
+      let m : List ℕ = getD marks k [] in
+      let b : List ℕ = pg img p in
+      let page : length b ≡ 1024 = length-pg img p low high in
+      let mark : length m ≡ getD lengths k 0 = mark-length k h in
+      let four : length (take 4 m) ≡ 4 = omega (arith, length-take 4 m, mark, mark-long k h) in
+      let start : eqb (be32 b 0) (number 0 (take 4 m)) ≡ begins (take 4 m) b
+      = rw (number-be32 b 0 (omega (arith, page))) (rw four at (equal-begins (take 4 m) b (bytes-take 4 m (mark-bytes k h)) page-bytes (omega (arith, four, page))))
+      in
+      begins-parts 4 m b ∙ sym (ap₂ _&&_ start (equal-begins (drop 4 m) (drop 4 b) (bytes-drop 4 m (mark-bytes k h)) (bytes-drop 4 b page-bytes)
+      (omega (arith, length-drop 4 m, length-drop 4 b, page, mark, mark-short k h))))
+
+  module _ (a b : ℕ) (first : a ≡ be32 (pg img p) 0) (start : b ≡ number 0 (take 4 (getD marks k []))) where
+    pub bears-not : (a ≡ b → ⊥) → false ≡ begins (getD marks k []) (pg img p)
+    bears-not n = sym (bears-numbers ∙ rw (← first, ← start, ne-eqb a b n))
+
+    module _ (same : a ≡ b) (r s : ℕ) (next : r ≡ number 0 (take (length (drop 4 (getD marks k []))) (drop 4 (pg img p)))) (rest : s ≡ number 0 (drop 4 (getD marks k []))) where
+      bears-rest : begins (getD marks k []) (pg img p) ≡ eqb r s
+      bears-rest = bears-numbers ∙ rw (← first, ← start, ← next, ← rest, eq-eqb a b same)
+
+      pub bears-no : (r ≡ s → ⊥) → false ≡ begins (getD marks k []) (pg img p)
+      bears-no n = sym (bears-rest ∙ ne-eqb r s n)
+
+      pub bears-so : r ≡ s → true ≡ begins (getD marks k []) (pg img p)
+      bears-so e = sym (bears-rest ∙ eq-eqb r s e)
 
 -- ---- the kind of a page
 
