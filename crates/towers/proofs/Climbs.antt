@@ -7,9 +7,9 @@ use mathlib.Core.Logic.{by-cases}
 use mathlib.Core.Bool.{Bool, true, false, true≢false}
 use mathlib.Core.List.{List, [], _∷_, map}
 use mathlib.Core.Option.{Option, none, some}
-use lib.ListN.{length, getD}
+use lib.ListN.{length}
 use borrow.Author.Tests.{lt-ltb, le-ltb}
-use Rattle.blockfile.specs.Bytes.{pg, be16, from}
+use Rattle.blockfile.specs.Bytes.{pg, be16, be32, from}
 use Rattle.blockfile.specs.Marks.{towerMark}
 use Rattle.blockfile.specs.Layout.{Span, Tower, Column, spansOf, towersOf}
 use Rattle.blockfile.specs.Fields.{LinkedTower, IsTower}
@@ -22,7 +22,8 @@ use Rattle.walks.specs.declared.Walked.the-variants.{Refused, Done}
 use Rattle.walks.specs.Found.{Open, zeros, Found, Decides, FindsAt}
 use Rattle.walks.proofs.Founds.{SameAt, same-start, same-turn, finds-none, finds-done, done-injective, refused-never, found-none, claimable-open, zeros-claimed, length-claimed}
 use Rattle.walks.proofs.Pieces.{Single, found-claimable, found-rest, found-cons, claim-done, claim-not}
-use Rattle.towers.specs.Climb.{AllAre, entryAt, Followed, nextSpan, Way, Linked, Reach, Tall, spanUnder, TowerFound, Placed, ClimbOn, Climb}
+use Rattle.towers.specs.Climb.{levelAt, AllAre, entryAt, Followed, nextSpan, Way, Linked, Reach, Tall, spanUnder, TowerFound, Placed, ClimbOn, Climb}
+use Rattle.towers.proofs.Levels.{lowest-is}
 use Rattle.towers.proofs.Ways.{reach-linked}
 
 -- ---- One tower
@@ -120,9 +121,6 @@ tower-bears img scr n ts e h =
 abbrev onPage : ℕ → Option Tower → Column
 onPage q o = record { span = record { page = q; conts = []; entries = [] }; tower = o }
 
-abbrev at : List ℕ → ℕ → ℕ
-at levels i = getD levels i 0
-
 -- other levels that are the same below the top
 pub climb-levels : (img scr : List ℕ) (top p : ℕ) (d e : ℕ → ℕ) (j : ℕ) → ((i : ℕ) → i < top → d i ≡ e i) → (m : ℕ) (out : List ℕ)
     → Climb img scr top p d j m out → Climb img scr top p e j m out
@@ -132,20 +130,20 @@ climb-levels img scr top p d e j a m out c =
 
 module _ (img scr : List ℕ) (top : ℕ) (levels : List ℕ) (j m : ℕ) (out : List ℕ) where
   -- spans without towers before
-  climb-way : (l : List ℕ) (p q : ℕ) → Way img p q l → Climb img scr top q (at levels) j m out → Climb img scr top p (at levels) j m out
-  climb-way [] p q w c = subst (λ (x : ℕ). Climb img scr top x (at levels) j m out) (sym w) c
+  climb-way : (l : List ℕ) (p q : ℕ) → Way img p q l → Climb img scr top q (levelAt levels) j m out → Climb img scr top p (levelAt levels) j m out
+  climb-way [] p q w c = subst (λ (x : ℕ). Climb img scr top x (levelAt levels) j m out) (sym w) c
   climb-way (x ∷ l) p q (e, lo, hi, w) c =
       let d = climb-way l (nextSpan img x) q w c in
       let o = d .on in
       record { rest = onPage x none ∷ d .rest; on = record { way = (e, lo, hi, o .way); tall = o .tall; expected = o .expected; found = o .found; total = o .total } }
 
-  climb-past : (p : ℕ) (s : Span) (cs : List Column) → ClimbOn img scr top p (at levels) j m out (record { span = s; tower = none } ∷ cs)
-      → ClimbOn img scr top (nextSpan img (s .page)) (at levels) j m out cs
+  climb-past : (p : ℕ) (s : Span) (cs : List Column) → ClimbOn img scr top p (levelAt levels) j m out (record { span = s; tower = none } ∷ cs)
+      → ClimbOn img scr top (nextSpan img (s .page)) (levelAt levels) j m out cs
   climb-past p s cs o = record { way = o .way .3; tall = o .tall; expected = o .expected; found = o .found; total = o .total }
 
   -- a tower that is placed, before the others
   climb-to : (mid levels′ : List ℕ) (p n k : ℕ) → Placed img scr top levels p n k mid → Followed img n k levels levels′
-      → Climb img mid top (nextSpan img (spanUnder img n)) (at levels′) (j + 1) m out → Climb img scr top p (at levels) j m out
+      → Climb img mid top (nextSpan img (spanUnder img n)) (levelAt levels′) (j + 1) m out → Climb img scr top p (levelAt levels) j m out
   climb-to mid levels′ p n k x f c =
       let w : Tower = towerAt img n in
       let ts : List Tower = towersOf (c .rest) in
@@ -173,10 +171,10 @@ module _ (img scr : List ℕ) (top : ℕ) (levels : List ℕ) (j m : ℕ) (out :
     pub height : ℕ
     pub mid : List ℕ
     pub placed : Placed img scr top levels p n height mid
-    pub more : (levels′ : List ℕ) → Followed img n height levels levels′ → Climb img mid top (nextSpan img (spanUnder img n)) (at levels′) (j + 1) m out
+    pub more : (levels′ : List ℕ) → Followed img n height levels levels′ → Climb img mid top (nextSpan img (spanUnder img n)) (levelAt levels′) (j + 1) m out
 
   first-here : (p : ℕ) (s : Span) (w : Tower) (cs : List Column)
-      → ClimbOn img scr top p (at levels) j m out (record { span = s; tower = some w } ∷ cs) → First p (w .page)
+      → ClimbOn img scr top p (levelAt levels) j m out (record { span = s; tower = some w } ∷ cs) → First p (w .page)
   first-here p s w cs o =
       let ts : List Tower = towersOf cs in
       let x : LinkedTower = raised (s .page) ts w in
@@ -229,26 +227,26 @@ module _ (img scr : List ℕ) (top : ℕ) (levels : List ℕ) (j m : ℕ) (out :
         more = f .more;
       }
 
-  module _ (n : ℕ) (is : at levels 0 ≡ n) where
+  module _ (n : ℕ) (is : levelAt levels 0 ≡ n) where
     -- where a tower is expected at the lowest level, it is the first
-    first-of : (n ≡ 0 → ⊥) → 1 ≤ top → (cs : List Column) (p : ℕ) → ClimbOn img scr top p (at levels) j m out cs → First p n
+    first-of : (n ≡ 0 → ⊥) → 1 ≤ top → (cs : List Column) (p : ℕ) → ClimbOn img scr top p (levelAt levels) j m out cs → First p n
     first-of z low [] p o = absurd (z (sym is ∙ o .expected 0 low))
     first-of z low (c ∷ cs) p o = go (c .tower) o (first-of z low cs (nextSpan img (c .span .page)))
       where
-        go : (t : Option Tower) → ClimbOn img scr top p (at levels) j m out (record { span = c .span; tower = t } ∷ cs)
-            → (ClimbOn img scr top (nextSpan img (c .span .page)) (at levels) j m out cs → First (nextSpan img (c .span .page)) n) → First p n
+        go : (t : Option Tower) → ClimbOn img scr top p (levelAt levels) j m out (record { span = c .span; tower = t } ∷ cs)
+            → (ClimbOn img scr top (nextSpan img (c .span .page)) (levelAt levels) j m out cs → First (nextSpan img (c .span .page)) n) → First p n
         go none o ih = first-past p (c .span .page) n (o .way .0) (o .way .1) (o .way .2) (ih (climb-past p (c .span) cs o))
         go (some w) o ih =
             let w-is : w .page ≡ n = sym (next-hit 0 w (towersOf cs) (o .tall .0 .low)) ∙ sym (o .expected 0 low) ∙ is in
             subst (First p) w-is (first-here p (c .span) w cs o)
 
     -- where none is, there is none
-    none-left : n ≡ 0 → (cs : List Column) (p : ℕ) → ClimbOn img scr top p (at levels) j m out cs → AllAre levels top 0 × ((j ≡ m) × (scr ≡ out))
+    none-left : n ≡ 0 → (cs : List Column) (p : ℕ) → ClimbOn img scr top p (levelAt levels) j m out cs → AllAre levels top 0 × ((j ≡ m) × (scr ≡ out))
     none-left z [] p o = (o .expected, (omega (arith, o .total), sym (o .found .left)))
     none-left z (c ∷ cs) p o = go (c .tower) o (none-left z cs (nextSpan img (c .span .page)))
       where
-        go : (t : Option Tower) → ClimbOn img scr top p (at levels) j m out (record { span = c .span; tower = t } ∷ cs)
-            → (ClimbOn img scr top (nextSpan img (c .span .page)) (at levels) j m out cs → AllAre levels top 0 × ((j ≡ m) × (scr ≡ out)))
+        go : (t : Option Tower) → ClimbOn img scr top p (levelAt levels) j m out (record { span = c .span; tower = t } ∷ cs)
+            → (ClimbOn img scr top (nextSpan img (c .span .page)) (levelAt levels) j m out cs → AllAre levels top 0 × ((j ≡ m) × (scr ≡ out)))
             → AllAre levels top 0 × ((j ≡ m) × (scr ≡ out))
         go none o ih = ih (climb-past p (c .span) cs o)
         go (some w) o ih =
@@ -257,7 +255,7 @@ module _ (img scr : List ℕ) (top : ℕ) (levels : List ℕ) (j m : ℕ) (out :
             absurd (omega (arith, o .expected 0 (omega arith), next-hit 0 w (towersOf cs) (t .low)))
 
 -- the walk ends where no level expects a tower
-climb-end : (img scr : List ℕ) (top : ℕ) (levels : List ℕ) (p j : ℕ) → Linked img p → AllAre levels top 0 → Climb img scr top p (at levels) j j scr
+climb-end : (img scr : List ℕ) (top : ℕ) (levels : List ℕ) (p j : ℕ) → Linked img p → AllAre levels top 0 → Climb img scr top p (levelAt levels) j j scr
 climb-end img scr top levels p j k h =
     climb-way img scr top levels j j scr (k .passed) p 0 (k .way)
     (record { rest = []; on = record { way = refl; tall = tt; expected = h; found = found-none img scr; total = omega arith } })
@@ -265,26 +263,26 @@ climb-end img scr top levels p j k h =
 -- the loop over the towers: the next one is on page n, its span is p or comes after it, and `count` are found
 pub record Climbing (img scr₀ : List ℕ) (head top start : ℕ) (scr levels : List ℕ) (p count n : ℕ) : Type 0 where
   pub long : length scr ≡ length scr₀
-  pub wide : length levels ≡ 252
-  pub lowest : getD levels 0 0 ≡ n
+  pub wide : length levels ≡ 1024
+  pub lowest : levelAt levels 0 ≡ n
   pub topped : (n ≡ 0 → ⊥) → 1 ≤ top
   pub used : count + zeros scr ≡ 1 + zeros scr₀
   pub linked : Linked img p
-  pub same : SameAt (Climb img scr top p (at levels) count) (Climb img scr₀ top start (entryAt img head) 1)
+  pub same : SameAt (Climb img scr top p (levelAt levels) count) (Climb img scr₀ top start (entryAt img head) 1)
 
-pub climbing-start : (img scr : List ℕ) (head top start : ℕ) (levels out : List ℕ) → Linked img start → length levels ≡ 252 → getD levels 0 0 ≡ 0
-    → Followed img head top levels out → Climbing img scr head top start scr out start 1 (getD out 0 0)
-climbing-start img scr head top start levels out k w z f =
+pub climbing-start : (img scr : List ℕ) (head top start : ℕ) (levels out : List ℕ) → Linked img start → length levels ≡ 1024 → levelAt levels 0 ≡ 0
+    → Followed img head top levels out → (low : ℕ) → low ≡ be32 (pg out 1) 16 → Climbing img scr head top start scr out start 1 low
+climbing-start img scr head top start levels out k w z f low e =
     record {
       long = refl;
       wide = f .long ∙ w;
-      lowest = refl;
-      topped = λ ne. by-cases (decLt 0 top) (λ l. l) (λ l. absurd (ne (f .above 0 (omega arith) ∙ z)));
+      lowest = lowest-is out low e;
+      topped = λ ne. by-cases (decLt 0 top) (λ l. l) (λ l. absurd (ne (sym (lowest-is out low e) ∙ f .above 0 (omega arith) ∙ z)));
       used = refl;
       linked = k;
       same = record {
-        to = climb-levels img scr top start (at out) (entryAt img head) 1 (λ i l. f .below i l);
-        back = climb-levels img scr top start (entryAt img head) (at out) 1 (λ i l. sym (f .below i l));
+        to = climb-levels img scr top start (levelAt out) (entryAt img head) 1 (λ i l. f .below i l);
+        back = climb-levels img scr top start (entryAt img head) (levelAt out) 1 (λ i l. sym (f .below i l));
       };
     }
 
@@ -301,7 +299,7 @@ module _ (img scr₀ : List ℕ) (head top start : ℕ) (scr levels : List ℕ) 
   ClimbIs r s = FindsAt Done (Climb img scr₀ top start (entryAt img head) 1) r s
 
   module _ (z : n ≡ 0) (r : Bool) (d : Decides (AllAre levels top 0) r) where
-    only : (m : ℕ) (t : List ℕ) → Climb img scr top p (at levels) count m t → AllAre levels top 0 × ((count ≡ m) × (scr ≡ t))
+    only : (m : ℕ) (t : List ℕ) → Climb img scr top p (levelAt levels) count m t → AllAre levels top 0 × ((count ≡ m) × (scr ≡ t))
     only m t c = none-left img scr top levels count m t n (v .lowest) z (c .rest) p (c .on)
 
     pub climbing-open : r ≡ false → ClimbIs Refused scr
@@ -312,7 +310,7 @@ module _ (img scr₀ : List ℕ) (head top start : ℕ) (scr levels : List ℕ) 
         finds-done Done (Done count) scr (v .same) done-injective count refl (climb-end img scr top levels p count (v .linked) (d .sound e)) (λ m t c. only m t c .1)
 
   module _ (z : n ≡ 0 → ⊥) (a : Walked) (s : List ℕ) (b : FindsAt Done (Placed img scr top levels p n) a s) where
-    first : (m : ℕ) (t : List ℕ) → Climb img scr top p (at levels) count m t → First img scr top levels count m t p n
+    first : (m : ℕ) (t : List ℕ) → Climb img scr top p (levelAt levels) count m t → First img scr top levels count m t p n
     first m t c = first-of img scr top levels count m t n (v .lowest) z (v .topped z) (c .rest) p (c .on)
 
     pub climbing-no : a ≡ Refused → ClimbIs Refused s
@@ -334,7 +332,7 @@ module _ (img scr₀ : List ℕ) (head top start : ℕ) (scr levels : List ℕ) 
           }
 
       same-next : (out : List ℕ) → Followed img n k levels out
-          → SameAt (Climb img s top (nextSpan img (spanUnder img n)) (at out) (count + 1)) (Climb img scr top p (at levels) count)
+          → SameAt (Climb img s top (nextSpan img (spanUnder img n)) (levelAt out) (count + 1)) (Climb img scr top p (levelAt levels) count)
       same-next out f =
           record {
             to = λ m t c. climb-to img scr top levels count m t s out p n k (b .sound k e) f c;
@@ -342,20 +340,20 @@ module _ (img scr₀ : List ℕ) (head top start : ℕ) (scr levels : List ℕ) 
                 let x = first m t c in
                 let d = b .complete (x .height) (x .mid) (x .placed) in
                 let h : k ≡ x .height = done-injective k (x .height) (sym e ∙ d .0) in
-                subst (λ (y : List ℕ). Climb img y top (nextSpan img (spanUnder img n)) (at out) (count + 1) m t) (sym (d .1))
+                subst (λ (y : List ℕ). Climb img y top (nextSpan img (spanUnder img n)) (levelAt out) (count + 1) m t) (sym (d .1))
                 (x .more out (subst (λ (y : ℕ). Followed img n y levels out) h f));
           }
 
       pub climbing-next : (out : List ℕ) → Followed img n k levels out → (span next : ℕ) → span ≡ spanUnder img n → next ≡ nextSpan img span
-          → Climbing img scr₀ head top start s out next (count + 1) (getD out 0 0)
-      climbing-next out f span next e₁ e₂ =
+          → (low : ℕ) → low ≡ be32 (pg out 1) 16 → Climbing img scr₀ head top start s out next (count + 1) low
+      climbing-next out f span next e₁ e₂ low l =
           let t = climbing-turn in
           let x = b .sound k e in
           rw (e₂, e₁)
           (record {
             long = ap length (x .found .left) ∙ length-claimed scr n ∙ v .long;
             wide = f .long ∙ v .wide;
-            lowest = refl;
+            lowest = lowest-is out low l;
             topped = λ _. v .topped z;
             used = omega (arith, t .falls, v .used);
             linked = reach-linked img p (spanUnder img n) (v .linked) (x .reach);

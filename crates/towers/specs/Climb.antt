@@ -11,11 +11,18 @@ use Rattle.blockfile.specs.WellFormed.{tower, nextAt, linkTowers}
 use Rattle.pages.specs.Claims.{claimable, claimed}
 use Rattle.walks.specs.Found.{Found}
 
--- ---- Levels: the tower expected at each level
+-- ---- Levels: the tower expected at each level, as an entry of a tower's page
+
+abbrev pub levelAt : (levels : List ℕ) (i : ℕ) → ℕ
+levelAt levels i = be32 levels (16 + 4 * i)
+
+-- n bytes from 20 on are those four before
+abbrev pub Repeats : (levels : List ℕ) (n : ℕ) → Type 0
+Repeats levels n = (i : ℕ) → i < n → getD levels (20 + i) 0 ≡ getD levels (16 + i) 0
 
 -- the first n levels are v
 abbrev pub AllAre : (levels : List ℕ) (n v : ℕ) → Type 0
-AllAre levels n v = (i : ℕ) → i < n → getD levels i 0 ≡ v
+AllAre levels n v = (i : ℕ) → i < n → levelAt levels i ≡ v
 
 -- entry i of the tower on page n
 abbrev pub entryAt : (img : List ℕ) (n i : ℕ) → ℕ
@@ -24,8 +31,8 @@ entryAt img n i = be32 (pg img n) (16 + 4 * i)
 -- the levels, with the first h those of the tower on page n, are `out`
 pub record Followed (img : List ℕ) (n h : ℕ) (levels out : List ℕ) : Type 0 where
   pub long : length out ≡ length levels
-  pub below : (i : ℕ) → i < h → getD out i 0 ≡ entryAt img n i
-  pub above : (i : ℕ) → h ≤ i → getD out i 0 ≡ getD levels i 0
+  pub below : (i : ℕ) → i < h → levelAt out i ≡ entryAt img n i
+  pub above : (i : ℕ) → h ≤ i → levelAt out i ≡ levelAt levels i
 
 -- ---- Spans: only their pages and next links are looked at
 

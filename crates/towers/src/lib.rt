@@ -1,6 +1,6 @@
 // The towers of a table, after its spans: the head, which stands on the first span, and the towers of the other spans.
 ghost use mathlib.Core.Path.{_≡_};
-ghost use Prim.Native.Nat.{ℕ, _*_, _≤_};
+ghost use Prim.Native.Nat.{ℕ, _+_, _*_, _≤_};
 ghost use mathlib.Core.List.{List};
 ghost use lib.ListN.{length};
 ghost use Rattle.blockfile.specs.Layout.{Span};
@@ -9,38 +9,55 @@ ghost use Rattle.pages.specs.Claims.{Lent};
 ghost use Rattle.walks.specs.Found.{Decides, FindsAt};
 ghost use Rattle.walks.specs.declared.Walked.the-variants.{Done};
 ghost use Rattle.towers.specs.Towers.{Spanned, HasSpans, TowersFound};
-ghost use Rattle.towers.specs.Climb.{AllAre, Followed, Linked, Reach, Tall, TowerFound, Placed, Climb, entryAt};
+ghost use Rattle.towers.specs.Climb.{Repeats, AllAre, Followed, Linked, Reach, Tall, TowerFound, Placed, Climb, entryAt};
 use pages::claim::claim;
 use pages::mark::TOWER;
 use pages::read::get16;
 use pages::read::get32;
+use pages::write::put_bytes;
 use walks::Walked;
 
-// Whether the first `n` levels all expect page `v`.
-fn all_are(levels: &[usize; 252], n: usize, v: usize) -> bool
-    requires { ⌜ n ≤ 252 ⌝ }
-    ensures { λ r. ⌜ Decides (AllAre (now (levels .entry)) n v) r ⌝ }
+// The levels are the entries of a tower: the page expected at level i stands at 16 + 4·i of a page of their own.
+
+// Whether the `n` bytes from 20 on are each the one that stands four before it. The loop goes over all of them, so that it takes
+// many in a step.
+fn repeats(levels: &[u8], n: usize) -> bool
+    requires { ⌜ 20 + n ≤ length (now levels) ⌝ }
+    ensures { λ r. ⌜ Decides (Repeats (now (levels .entry)) n) r ⌝ }
 {
+    let mut same = true;
     let mut i = 0;
     while i < n {
-        if levels[i] != v {
-            return false;
+        if levels[20 + i] != levels[16 + i] {
+            same = false;
         }
         i += 1;
     }
-    true
+    same
+}
+
+// Whether the first `n` levels all expect page `v`: the lowest does, and each has the bytes of the one below it.
+fn all_are(levels: &[u8], n: usize, v: usize) -> bool
+    requires { ⌜ (n ≤ 252) × (length (now levels) ≡ 1024) ⌝ }
+    ensures { λ r. ⌜ Decides (AllAre (now (levels .entry)) n v) r ⌝ }
+{
+    if n == 0 {
+        return true;
+    }
+    if get32(levels, 1, 16) != v {
+        return false;
+    }
+    repeats(levels, 4 * n - 4)
 }
 
 // The first `height` levels now expect the entries of the tower on `page`.
-fn follow(image: &[u8], levels: &mut [usize; 252], page: usize, height: usize)
-    requires { ⌜ Inside (now image) page 16 (4 * height) × (length (now levels) ≡ 252) ⌝ }
+fn follow(image: &[u8], levels: &mut [u8], page: usize, height: usize)
+    requires { ⌜ Inside (now image) page 16 (4 * height) × (length (now levels) ≡ 1024) ⌝ }
     ensures { λ _. ⌜ Followed (now (image .entry)) page height (now (levels .entry)) (now (levels .exit)) ⌝ }
 {
-    let mut i = 0;
-    while i < height {
-        levels[i] = get32(image, page, 16 + 4 * i);
-        i += 1;
-    }
+    let at = 1024 * (page - 1) + 16;
+    let end = at + 4 * height;
+    put_bytes(levels, 1, 16, &image[at..end])
 }
 
 // Whether `target` is one of the spans from `start` on.
@@ -89,12 +106,12 @@ fn claim_tower(image: &[u8], scratch: &mut [u8], page: usize, low: usize, high: 
 fn place_tower(
     image: &[u8],
     scratch: &mut [u8],
-    levels: &[usize; 252],
+    levels: &[u8],
     start: usize,
     page: usize,
     top: usize,
 ) -> Walked
-    requires { ⌜ (top ≤ 252) × Lent (now image) (now scratch) × Linked (now image) start ⌝ }
+    requires { ⌜ (top ≤ 252) × (length (now levels) ≡ 1024) × Lent (now image) (now scratch) × Linked (now image) start ⌝ }
     ensures { λ r. ⌜ FindsAt Done (Placed (now (image .entry)) (now (scratch .entry)) top (now (levels .entry)) start page) r (now (scratch .exit)) ⌝ }
 {
     let Walked::Done(height) = claim_tower(image, scratch, page, 1, top) else {
@@ -117,11 +134,11 @@ fn claim_others(image: &[u8], scratch: &mut [u8], head: usize, top: usize, start
     requires { ⌜ Lent (now image) (now scratch) × Inside (now image) head 16 (4 * top) × Linked (now image) start ⌝ }
     ensures { λ r. ⌜ FindsAt Done (Climb (now (image .entry)) (now (scratch .entry)) top start (entryAt (now (image .entry)) head) 1) r (now (scratch .exit)) ⌝ }
 {
-    let mut levels = [0usize; 252];
+    let mut levels = [0u8; 1024];
     follow(image, &mut levels, head, top);
     let mut next = start;
     let mut count = 1;
-    let mut page = levels[0];
+    let mut page = get32(&levels, 1, 16);
     while page != 0 {
         let Walked::Done(height) = place_tower(image, scratch, &levels, next, page, top) else {
             return Walked::Refused;
@@ -130,7 +147,7 @@ fn claim_others(image: &[u8], scratch: &mut [u8], head: usize, top: usize, start
         let span = get32(image, page, 12);
         next = get32(image, span, 12);
         count += 1;
-        page = levels[0];
+        page = get32(&levels, 1, 16);
     }
     if !all_are(&levels, top, 0) {
         return Walked::Refused;

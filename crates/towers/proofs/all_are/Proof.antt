@@ -1,54 +1,29 @@
--- `all_are` meets its contract: the levels that were passed are v.
-use Prim.Native.Nat.{_-_, _≤_}
+-- `all_are` meets its contract: each return cites the law for the tests that led there.
 use native.Mathlib.Omega.{arith}
+use mathlib.Core.Path.{sym, _∙_}
 use borrow.Author.Needs.{needs}
-use borrow.Author.Count.{below-more}
 use Rattle.walks.proofs.Founds.{decides-true, decides-false}
-use Rattle.towers.specs.Climb.{AllAre}
+use Rattle.towers.proofs.Levels.{lowest-is, all-repeat}
 use Rattle.towers.proofs.all_are.Statement.{statement}
 use Rattle.towers.proofs.all_are.Tie as tie
 
-abbrev Inv-loop : tie.InvT-loop
-Inv-loop levels n v i₀ i = (i ≤ n) × AllAre levels i v
+returns-2 : tie.Need-returns-2
+returns-2 c = decides-false (λ a. c .if2 .taken (sym (lowest-is _ _ (c .before .get32 .ensures .is)) ∙ a 0 (omega arith)))
 
-abbrev μ-loop : tie.MeasureT-loop
-μ-loop levels n v i₀ i = n - i
-
-loop-holds : tie.Need-loop-holds Inv-loop μ-loop
-loop-holds c = search needs
-
-mul-if1 : tie.Need-mul-if1 Inv-loop μ-loop
-mul-if1 c = search needs
-
-element-copy-out-if1 : tie.Need-element-copy-out-if1 Inv-loop μ-loop
-element-copy-out-if1 c = search needs
-
-returns : tie.Need-returns Inv-loop μ-loop
-returns c = decides-false (λ a. c .if1 .taken (a (c .before .before .before .loop .i) (omega arith)))
-
-add-i : tie.Need-add-i Inv-loop μ-loop
-add-i c = search needs
-
-loop-less : tie.Need-loop-less Inv-loop μ-loop
-loop-less c = search needs
-
-loop-again : tie.Need-loop-again Inv-loop μ-loop
-loop-again c = (omega arith, below-more _ _ (c .before .before .before .loop .inv .1) (c .if1 .left))
-
-returns-2 : tie.Need-returns-2 Inv-loop μ-loop
-returns-2 c = decides-true (λ i h. c .before .loop .inv .1 i (omega arith))
+returns-3 : tie.Need-returns-3
+returns-3 c =
+    let g = c .before .before in
+    let k = g .before .before in
+    all-repeat (k .before .args .levels .now) (λ i. omega (arith, k .shared-slice-known .given i)) _ _ _ (lowest-is _ _ (g .get32 .ensures .is) ∙ c .before .if2 .left) (c .repeats .ensures)
 
 pub all-are-spec : {M : Type 1} → statement M
 all-are-spec =
     tie.close
     (tie.spec
-    Inv-loop
-    μ-loop
-    loop-holds
-    mul-if1
-    element-copy-out-if1
-    returns
-    add-i
-    loop-less
-    loop-again
-    returns-2)
+    (λ c. decides-true (λ i l. absurd (omega arith)))
+    (λ c κs. search needs)
+    returns-2
+    (λ c. search needs)
+    (λ c. search needs)
+    (λ c κs. search needs)
+    returns-3)

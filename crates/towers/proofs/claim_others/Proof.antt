@@ -1,8 +1,13 @@
 -- `claim_others` meets its contract. The loop's invariant is `Climbing`; the measure is the pages that are not claimed.
-use mathlib.Core.Path.{refl, _∙_}
+use Prim.Native.Nat.{ℕ}
+use mathlib.Core.List.{List}
+use mathlib.Core.Path.{_≡_, refl, sym, _∙_}
 use native.Mathlib.Omega.{arith}
 use borrow.Author.Needs.{needs}
 use borrow.Author.Tests.{not-true, not-false}
+use lib.ListN.{length}
+use Rattle.blockfile.specs.Bytes.{be16, be32}
+use Rattle.pages.specs.Places.{Inside}
 use Rattle.walks.specs.Found.{zeros}
 use Rattle.walks.proofs.Founds.{zeros-most}
 use Rattle.towers.proofs.Climbs.{Climbing, climbing-start, climbing-open, climbing-end, climbing-no, Turn, climbing-turn, climbing-next}
@@ -16,14 +21,21 @@ Inv-loop image scratch₀ head top start levels₀ next₀ count₀ page₀ scra
 abbrev μ-loop : tie.MeasureT-loop
 μ-loop image scratch₀ head top start levels₀ next₀ count₀ page₀ scratch levels next count page = zeros scratch
 
+-- the lowest level is read as on the first page of an image
+in-levels : (levels : List ℕ) → length levels ≡ 1024 → Inside levels 1 16 4
+in-levels levels e = record { small = omega arith; low = omega arith; high = omega arith; fits = omega arith }
+
 follow-requires : tie.Need-follow-requires Inv-loop μ-loop
 follow-requires c κs = search needs
 
 loop-holds : tie.Need-loop-holds Inv-loop μ-loop
-loop-holds c = climbing-start _ _ _ _ _ _ _ (c .before .before .before .before .pre .2) refl refl (c .follow .ensures)
+unfolding be32 be16
+loop-holds c =
+    let f = c .before .before .before in
+    climbing-start _ _ _ _ _ _ _ (f .before .before .before .before .pre .2) refl refl (f .follow .ensures) _ (c .get32 .ensures .is)
 
 place-tower-requires : tie.Need-place-tower-requires Inv-loop μ-loop
-place-tower-requires c κs = (omega arith, record { size = omega arith; most = omega arith }, c .before .before .before .loop .inv .linked)
+place-tower-requires c κs = (omega arith, omega arith, record { size = omega arith; most = omega arith }, c .before .before .before .loop .inv .linked)
 
 returns : tie.Need-returns Inv-loop μ-loop
 returns c =
@@ -33,7 +45,7 @@ returns c =
 
 -- a turn that goes on
 turn : (c : tie.After-known-told Inv-loop μ-loop)
-    → let a = c .before .before .before .before .before .before .before .before .before .before .before .before .before .before .args in
+    → let a = c .before .before .before .before .before .before .before .before .before .before .before .before .before .before .before .before .before .args in
     let l = c .before .before .before .before .before .before .before .before .before .loop in
     Turn (a .image .now) (l .scratch) (a .top) (l .page) (c .before .height .given .0 .0) (c .before .before .before .before .before .place-tower .last .1 .0)
 turn c =
@@ -46,26 +58,27 @@ follow-requires-2 c κs =
     let t = turn (c .before) in
     (record { small = omega arith; low = omega arith; high = omega arith; fits = omega arith }, omega arith)
 
-get32-requires : tie.Need-get32-requires Inv-loop μ-loop
-get32-requires c κs = let t = turn (c .before .before) in record { small = omega arith; low = omega arith; high = omega arith; fits = omega arith }
-
 get32-requires-2 : tie.Need-get32-requires-2 Inv-loop μ-loop
-get32-requires-2 c κs =
-    let t = turn (c .before .before .before) in record { small = omega arith; low = omega arith; high = omega arith; fits = omega arith }
+get32-requires-2 c κs = let t = turn (c .before .before .before) in record { small = omega arith; low = omega arith; high = omega arith; fits = omega arith }
+
+get32-requires-3 : tie.Need-get32-requires-3 Inv-loop μ-loop
+get32-requires-3 c κs =
+    let t = turn (c .before .before .before .before) in record { small = omega arith; low = omega arith; high = omega arith; fits = omega arith }
 
 add-count : tie.Need-add-count Inv-loop μ-loop
 add-count c =
-    let k = c .before .before .before .before in
-    let s = k .before .before .before .before .before .before .before .before .before .before .before .before .before .before in
+    let k = c .before .before .before .before .before in
+    let s = k .before .before .before .before .before .before .before .before .before .before .before .before .before .before .before .before .before in
     omega (arith, turn k .falls, zeros-most (s .args .scratch .now), s .pre .0 .most)
 
 loop-again : tie.Need-loop-again Inv-loop μ-loop
 loop-again c =
-    let k = c .before .before .before .before in
+    let g = c .before .before in
+    let k = g .before .before .before .before .before in
     let placed = k .before .before .before .before .before in
     let in-loop = placed .before .before .before in
     climbing-next _ _ _ _ _ _ _ _ _ _ (in-loop .before .loop .inv) (in-loop .loop-test .taken) _ _ (placed .place-tower .ensures) _ (k .before .height .given .1)
-    _ (c .before .before .follow2 .ensures) _ _ (c .before .get32 .ensures .is) (c .get322 .ensures .is)
+    _ (g .before .before .before .follow2 .ensures) _ _ (g .before .get322 .ensures .is) (g .get323 .ensures .is) _ (c .get324 .ensures .is)
 
 returns-2 : tie.Need-returns-2 Inv-loop μ-loop
 returns-2 c =
@@ -77,27 +90,39 @@ returns-3 c =
     let done = c .before .before .before in
     climbing-end _ _ _ _ _ _ _ _ _ _ (done .before .loop .inv) (done .loop-test .left) _ (c .before .all-are .ensures) (not-false _ (c .if1 .left))
 
+-- the levels that follow a tower are as wide
+wide-next : (c : tie.After-follow2 Inv-loop μ-loop) → length (c .follow2 .last .1 .0) ≡ 1024
+wide-next c =
+    let placed = c .before .before .before .before .before .before .before in
+    c .follow2 .ensures .long ∙ placed .before .before .before .before .loop .inv .wide
+
 pub claim-others-spec : {M : Type 1} → statement M
 claim-others-spec =
     tie.close
     (tie.spec
     Inv-loop
     μ-loop
-    follow-requires
     (λ c. search needs)
+    follow-requires
+    (λ c. sym (c .before .before .follow .ensures .long))
+    (λ c κs. in-levels _ (c .before .before .follow .ensures .long))
     loop-holds
+    (λ c. sym (c .before .before .before .loop .inv .wide))
     place-tower-requires
     (λ c. search needs)
     (λ c. search needs)
     (λ c. c .before .before .before .before .place-tower .kept .1 .0 ∙ c .before .before .before .before .before .before .before .before .loop .inv .long)
     returns
+    (λ c. sym (c .before .before .before .before .before .before .before .before .before .before .loop .inv .wide))
     follow-requires-2
-    get32-requires
     get32-requires-2
+    get32-requires-3
     add-count
-    (λ c. search needs)
-    (λ c. omega (arith, turn (c .before .before .before .before) .falls))
+    (λ c. sym (wide-next (c .before .before .before .before)))
+    (λ c κs. in-levels _ (wide-next (c .before .before .before .before)))
+    (λ c. omega (arith, turn (c .before .before .before .before .before .before .before) .falls))
     loop-again
+    (λ c. sym (c .before .before .loop .inv .wide))
     (λ c κs. omega arith)
     (λ c. c .before .before .before .before .loop .inv .long)
     returns-2

@@ -13,7 +13,7 @@ returns c = placed-no _ _ _ _ _ _ _ _ (c .before .before .before .before .claim-
 
 -- the tower was claimed
 opened : (c : tie.After-known-told)
-    → let a = c .before .before .before .before .before .before .before .before .before .args in
+    → let a = c .before .before .before .before .before .before .before .before .before .before .args in
     Open (a .scratch .now) (a .page) × (c .before .height .given .0 .0 ≤ a .top)
 opened c =
     let f = c .before .before .before .before .before .claim-tower .ensures .sound _ (c .before .height .given .1) in
@@ -55,7 +55,7 @@ place-tower-spec =
     (λ c κs. search needs)
     (λ c. search needs)
     returns-2
-    (λ c κs. omega (arith, opened (c .before .before .before)))
+    (λ c κs. (omega (arith, opened (c .before .before .before)), omega arith))
     (λ c. search needs)
     returns-3
     (λ c. search needs)
