@@ -1,8 +1,8 @@
 -- What a claim answers, and what a full scratch says.
 use Prim.Native.Nat.{ℕ, zero, suc, _+_, _-_, _≤_, _<_}
-use mathlib.Core.Bool.{Bool, true, false, _&&_, not, cond}
+use mathlib.Core.Bool.{Bool, true, false, _&&_, not, cond, and-true, and-false}
 use mathlib.Core.List.{List, [], _∷_}
-use mathlib.Core.Path.{_≡_, refl, sym, _∙_, subst}
+use mathlib.Core.Path.{_≡_, refl, ap, sym, _∙_, subst}
 use native.Mathlib.Nat.{not-suc-le-zero, le-of-suc-le-suc}
 use native.Mathlib.Numerals.{add-one}
 use native.Mathlib.Omega.{arith}
@@ -75,15 +75,18 @@ full-from : (s : List ℕ) (i : ℕ) → i < length s → full (drop i s) ≡ no
 unfolding full
 full-from s i h = rw (drop-cons s i 0 h, add-one i)
 
-pub full-more : (s : List ℕ) (i : ℕ) → i < length s → (getD s i 0 ≡ 0 → ⊥) → full (drop i s) ≡ full s → full (drop (i + 1) s) ≡ full s
-full-more s i h e f = sym (full-from s i h ∙ rw (ne-eqb (getD s i 0) 0 e)) ∙ f
+-- of the first i bytes, all are claimed; the loop's turn, and its end
+module _ (s : List ℕ) (i : ℕ) (all : Bool) (f : all && full (drop i s) ≡ full s) where
+  module _ (h : i < length s) (t : Bool) where
+    pub full-not : getD s i 0 ≡ 0 → t ≡ false → t && full (drop (i + 1) s) ≡ full s
+    full-not e q = rw q (sym (and-false all) ∙ ap (λ (b : Bool). all && b) (sym (full-from s i h ∙ rw (eq-eqb (getD s i 0) 0 e))) ∙ f)
 
-pub full-not : (s : List ℕ) (i : ℕ) → i < length s → getD s i 0 ≡ 0 → full (drop i s) ≡ full s → false ≡ full s
-full-not s i h e f = sym (full-from s i h ∙ rw (eq-eqb (getD s i 0) 0 e)) ∙ f
+    pub full-more : (getD s i 0 ≡ 0 → ⊥) → t ≡ all → t && full (drop (i + 1) s) ≡ full s
+    full-more e q = rw q (ap (λ (b : Bool). all && b) (sym (full-from s i h ∙ rw (ne-eqb (getD s i 0) 0 e))) ∙ f)
 
-pub full-end : (s : List ℕ) (i : ℕ) → length s ≤ i → full (drop i s) ≡ full s → true ≡ full s
-unfolding full
-full-end s i h f = rw (drop-of-length-le s h) at f
+  pub full-end : length s ≤ i → all ≡ full s
+  unfolding full
+  full-end h = sym (and-true all) ∙ rw (drop-of-length-le s h) at f
 
 pub full-at : (s : List ℕ) → full s ≡ true → (i : ℕ) → i < length s → getD s i 0 ≡ 0 → ⊥
 unfolding full

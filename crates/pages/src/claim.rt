@@ -26,18 +26,19 @@ pub fn claim(image: &[u8], scratch: &mut [u8], page: usize, kind: usize) -> bool
     false
 }
 
-// Whether every page is claimed.
+// Whether every page is claimed. The loop goes over all of them, so that it takes many in a step.
 pub fn all_claimed(scratch: &[u8]) -> bool
     ensures { λ r. ⌜ r ≡ full (now (scratch .entry)) ⌝ }
 {
+    let mut all = true;
     let mut i = 0;
     while i < scratch.len() {
         if scratch[i] == 0 {
-            return false;
+            all = false;
         }
         i += 1;
     }
-    true
+    all
 }
 
 // Zeroes the first n bytes.

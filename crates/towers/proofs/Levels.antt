@@ -2,9 +2,9 @@
 use Prim.Native.Nat.{ℕ, zero, suc, _+_, _*_, _-_, _/_, _%_, _≤_, _<_}
 use native.Mathlib.Nat.{add-zero, add-assoc, div-add-mod', mod-lt}
 use native.Mathlib.Omega.{arith}
-use mathlib.Core.Bool.{Bool, true, false}
+use mathlib.Core.Bool.{Bool, false}
 use mathlib.Core.Logic.{inr}
-use mathlib.Core.Path.{_≡_, refl, sym, _∙_}
+use mathlib.Core.Path.{_≡_, sym, _∙_}
 use mathlib.Core.List.{List}
 use lib.ListN.{length, take, drop, getD, length-take, length-drop}
 use lib.Seq.{sets, length-sets, getD-take, getD-drop}
@@ -12,10 +12,10 @@ use borrow.Author.Count.{below-more}
 use Rattle.blockfile.specs.Bytes.{pg, be16, be32, write}
 use Rattle.laws.proofs.Lists.{Agree, agree-in, agree-off}
 use Rattle.laws.proofs.Numbers.{be32-agree}
-use Rattle.laws.proofs.Pages.{be32-pg, length-write}
+use Rattle.laws.proofs.Pages.{be32-pg}
 use Rattle.walks.specs.Found.{Decides}
 use Rattle.walks.proofs.Founds.{decides-false}
-use Rattle.towers.specs.Climb.{levelAt, Repeats, AllAre, entryAt, Followed}
+use Rattle.towers.specs.Climb.{levelAt, Repeats, AllAre, Followed}
 
 -- the lowest level, as the code reads it
 pub lowest-is : (levels : List ℕ) (low : ℕ) → low ≡ be32 (pg levels 1) 16 → levelAt levels 0 ≡ low

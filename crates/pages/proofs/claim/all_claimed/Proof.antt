@@ -1,6 +1,8 @@
--- `pages::claim::all_claimed` meets its contract. The loop's invariant: the rest is full exactly where all is.
+-- `pages::claim::all_claimed` meets its contract. The loop's invariant: those passed and the rest are full exactly where all is.
 use Prim.Native.Nat.{_-_}
 use native.Mathlib.Omega.{arith}
+use mathlib.Core.Bool.{_&&_}
+use mathlib.Core.Logic.{⊎-elim}
 use mathlib.Core.Path.{_≡_, refl}
 use lib.ListN.{length, drop}
 use Rattle.pages.specs.Claims.{full}
@@ -9,30 +11,19 @@ use Rattle.pages.proofs.claim.all_claimed.Statement.{statement}
 use Rattle.pages.proofs.claim.all_claimed.Tie as tie
 
 abbrev Inv-loop : tie.InvT-loop
-Inv-loop scratch i₀ i = full (drop i scratch) ≡ full scratch
+Inv-loop scratch all₀ i₀ all i = all && full (drop i scratch) ≡ full scratch
 
 abbrev μ-loop : tie.MeasureT-loop
-μ-loop scratch i₀ i = length scratch - i
-
-returns : tie.Need-returns Inv-loop μ-loop
-returns c = full-not _ _ (omega arith) (c .if1 .taken) (c .before .before .before .loop .inv)
+μ-loop scratch all₀ i₀ all i = length scratch - i
 
 loop-again : tie.Need-loop-again Inv-loop μ-loop
-loop-again c = full-more _ _ (omega arith) (c .if1 .left) (c .before .before .before .loop .inv)
+loop-again c =
+    let l = c .before .before .before .loop in
+    let s = c .before .before .before .before .args .scratch .now in
+    ⊎-elim (λ p. full-not s (l .i) (l .all) (l .inv) (omega arith) _ (p .0 .taken) (p .1)) (λ p. full-more s (l .i) (l .all) (l .inv) (omega arith) _ (p .0 .left) (p .1)) (c .if1 .came)
 
-returns-2 : tie.Need-returns-2 Inv-loop μ-loop
-returns-2 c = full-end _ _ (c .loop-test .left) (c .before .loop .inv)
+returns : tie.Need-returns Inv-loop μ-loop
+returns c = full-end _ _ _ (c .before .loop .inv) (c .loop-test .left)
 
 pub all-claimed-spec : {M : Type 1} → statement M
-all-claimed-spec =
-    tie.close
-    (tie.spec
-    Inv-loop
-    μ-loop
-    (λ c. refl)
-    (λ c. omega arith)
-    returns
-    (λ c. omega arith)
-    (λ c. omega arith)
-    loop-again
-    returns-2)
+all-claimed-spec = tie.close (tie.spec Inv-loop μ-loop (λ c. refl) (λ c. omega arith) (λ c. omega arith) (λ c. omega arith) loop-again returns)
