@@ -191,10 +191,10 @@ link-pages f (x ∷ xs) = ap (λ (l : List ℕ). x .tower .page ∷ l) (link-pag
 -- ---- One level relinked
 
 -- numbers in a row, mapped
-map-from : (F G : ℕ → ℕ) (j n : ℕ) → ((i : ℕ) → j ≤ i → i < j + n → F i ≡ G i) → map F (from j n) ≡ map G (from j n)
+pub map-from : {A : Type 0} (F G : ℕ → A) (j n : ℕ) → ((i : ℕ) → j ≤ i → i < j + n → F i ≡ G i) → map F (from j n) ≡ map G (from j n)
 map-from F G j zero e = refl
-map-from F G j (suc n) e =
-    ap₂ (λ (x : ℕ) (xs : List ℕ). x ∷ xs) (e j (omega arith) (omega arith)) (map-from F G (suc j) n (λ i l m. e i (omega arith) (omega arith)))
+map-from {A} F G j (suc n) e =
+    ap₂ (λ (x : A) (xs : List A). x ∷ xs) (e j (omega arith) (omega arith)) (map-from F G (suc j) n (λ i l m. e i (omega arith) (omega arith)))
 
 set-from : (F G : ℕ → ℕ) (j n k : ℕ) → ((i : ℕ) → i ≢ j + k → F i ≡ G i) → set (map F (from j n)) k (G (j + k)) ≡ map G (from j n)
 set-from F G j zero k e = refl
@@ -377,11 +377,11 @@ head-sets w (l ∷ ls) x xs e =
     head-sets w ls (setEntry (l .page) (l .level) (l .to) x) (setNext (l .page) (l .level) (l .to) xs) e
     ∙ ap (λ (p : ℕ). setNexts ls (record { tower = w; spanPage = x .spanPage; nexts = cond (eqb (l .page) p) (set (x .nexts) (l .level) (l .to)) (x .nexts) } ∷ setNext (l .page) (l .level) (l .to) xs)) (sym e)
 
-next-low : (i e h : ℕ) (ts : List Tower) → Every (λ v. v .height ≤ h) ts → h ≤ i → nextOr i e ts ≡ e
+pub next-low : (i e h : ℕ) (ts : List Tower) → Every (λ v. v .height ≤ h) ts → h ≤ i → nextOr i e ts ≡ e
 next-low i e h [] l a = refl
 next-low i e h (t ∷ ts) l a = rw (le-ltb i (t .height) (omega (arith, l .0))) (next-low i e h ts (l .1) a)
 
-from-append : (j n m : ℕ) → from j (n + m) ≡ from j n ++ from (j + n) m
+pub from-append : (j n m : ℕ) → from j (n + m) ≡ from j n ++ from (j + n) m
 from-append j zero m = let z : 0 + m ≡ m = omega arith in let y : j + 0 ≡ j = omega arith in rw (z, y)
 from-append j (suc n) m =
     let z : suc n + m ≡ suc (n + m) = omega arith in
