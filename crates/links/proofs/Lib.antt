@@ -1,1 +1,6 @@
 pub mod Written
+pub mod Fills
+pub mod Distinct
+pub mod Standing
+pub mod Passing
+pub mod Behind

@@ -1,0 +1,163 @@
+-- Towers in the bytes: where they stand, and their entries.
+use Prim.Native.Nat.{ℕ, zero, suc, _+_, _*_, _≤_, _<_}
+use native.Mathlib.Omega.{arith}
+use native.Mathlib.Decide.{ℕ-discrete}
+use mathlib.Core.Path.{_≡_, refl, ap, sym, _∙_, subst}
+use mathlib.Core.Bool.{Bool, true, false, cond}
+use mathlib.Core.Logic.{_⊎_, inl, inr}
+use mathlib.Core.Option.{Option, none, some}
+use mathlib.Core.List.{List, [], _∷_, _++_, map}
+use lib.ListN.{length, getD, take, drop}
+use lib.Dec.{ltb, eqb}
+use borrow.Author.Tests.{ltb-true, eq-eqb, ne-eqb}
+use Rattle.blockfile.specs.Bytes.{pg, be16, be32, Every, from}
+use Rattle.blockfile.specs.Layout.{Span, Tower, Column, Table, columns, spansOf, towersOf, towerIn}
+use Rattle.blockfile.specs.Order.{Within}
+use Rattle.blockfile.specs.Fields.{LinkedTower}
+use Rattle.blockfile.specs.WellFormed.{span, tower, nextAt, linkTowers, spansIn, towersIn}
+use Rattle.blockfile.specs.Put.{lastAt}
+use Rattle.blockfile.proofs.Every.{every-right, every-so, every-unmap}
+use Rattle.laws.proofs.Chains.{entry-at}
+use Rattle.laws.proofs.TowerLinks.{next-or, next-low}
+use Rattle.laws.proofs.Relinks.{towers-at, towersBefore, towers-cut}
+use Rattle.entries.specs.Places.{IsPage}
+use Rattle.search.specs.Spans.{Borne}
+use Rattle.search.specs.Tables.{Reading}
+use Rattle.links.specs.Levels.{firstEntry}
+
+-- ---- One tower
+
+-- a tower on the span q, where the towers ts follow
+abbrev pub linked : (w : Tower) (q : ℕ) (ts : List Tower) → LinkedTower
+linked w q ts = record { tower = w; spanPage = q; nexts = map (λ i. nextAt i ts) (from 0 (w .height)) }
+
+-- the ways through `next_tower`
+module _ (img : List ℕ) (n r : ℕ) (e : r ≡ be16 (pg img n) 10) where
+  pub first-none : r ≡ 0 → 0 ≡ firstEntry img n
+  unfolding firstEntry
+  first-none z = rw (eq-eqb (be16 (pg img n) 10) 0 (sym e ∙ z))
+
+  pub first-some : (r ≡ 0 → ⊥) → be32 (pg img n) 16 ≡ firstEntry img n
+  unfolding firstEntry
+  first-some z = rw (ne-eqb (be16 (pg img n) 10) 0 (λ h. z (e ∙ h)))
+
+module _ (img : List ℕ) (w : Tower) (q : ℕ) (ts : List Tower) (b : Borne img (tower (linked w q ts))) where
+  pub entry-here : (l : ℕ) → l < w .height → be32 (pg img (w .page)) (16 + 4 * l) ≡ nextAt l ts
+  entry-here l h = entry-at (pg img (w .page)) (λ i. nextAt i ts) (w .height) l (b .0 .nexts) h
+
+  -- entry 0 is the next tower of all, where none follows a tower of height 0
+  pub first-here : (w .height ≡ 0 → nextAt 0 ts ≡ 0) → firstEntry img (w .page) ≡ nextAt 0 ts
+  first-here z = go (ℕ-discrete (w .height) 0)
+    where
+      go : Dec (w .height ≡ 0) → firstEntry img (w .page) ≡ nextAt 0 ts
+      go (yes e) = sym (first-none img (w .page) (w .height) (sym (b .0 .height)) e) ∙ sym (z e)
+      go (no e) = sym (first-some img (w .page) (w .height) (sym (b .0 .height)) e) ∙ entry-here 0 (omega arith)
+
+-- ---- Towers in a row
+
+abbrev pub AllBorne : (img : List ℕ) → List Column → Type 0
+AllBorne img cs = Every (λ x. Borne img (tower x)) (linkTowers cs)
+
+-- n is a page of the image and names as its span the one at a place of the columns
+pub record Stands (img : List ℕ) (n : ℕ) (cs : List Column) (d : Span) : Type 0 where
+  pub page : IsPage img n
+  pub place : ℕ
+  pub there : place < length cs
+  pub on : be32 (pg img n) 12 ≡ getD (spansOf cs) place d .page
+
+-- the next tower stands on one of the spans
+pub next-stands : (img : List ℕ) (d : Span) (cs : List Column) → AllBorne img cs → (nextAt 0 (towersOf cs) ≡ 0 → ⊥) → Stands img (nextAt 0 (towersOf cs)) cs d
+next-stands img d [] b z = absurd (z refl)
+next-stands img d (c ∷ cs) b z = go (c .tower) b z (next-stands img d cs)
+  where
+    later : (n : ℕ) → Stands img n cs d → Stands img n (c ∷ cs) d
+    later n s = record { page = s .page; place = suc (s .place); there = omega (arith, s .there); on = s .on }
+
+    go : (o : Option Tower) → Every (λ x. Borne img (tower x)) (map (λ t. linked t (c .span .page) (towersOf cs)) (towerIn o) ++ linkTowers cs)
+        → (nextAt 0 (towerIn o ++ towersOf cs) ≡ 0 → ⊥)
+        → (AllBorne img cs → (nextAt 0 (towersOf cs) ≡ 0 → ⊥) → Stands img (nextAt 0 (towersOf cs)) cs d)
+        → Stands img (nextAt 0 (towerIn o ++ towersOf cs)) (c ∷ cs) d
+    go none b z ih = later (nextAt 0 (towersOf cs)) (ih b z)
+    go (some w) b z ih = by (ltb 0 (w .height)) z
+      where
+        by : (v : Bool) → (cond v (w .page) (nextAt 0 (towersOf cs)) ≡ 0 → ⊥) → Stands img (cond v (w .page) (nextAt 0 (towersOf cs))) (c ∷ cs) d
+        by true z = record { page = b .0 .1 .0; place = 0; there = omega arith; on = b .0 .0 .spanPage }
+        by false z = later (nextAt 0 (towersOf cs)) (ih (b .1) z)
+
+-- a column's own tower
+pub record Own (img : List ℕ) (c : Column) (cs : List Column) : Type 0 where
+  pub own : Tower
+  pub has : towerIn (c .tower) ≡ own ∷ []
+  pub borne : Borne img (tower (linked own (c .span .page) (towersOf cs)))
+  pub range : Within 1 252 (own .height)
+
+-- it has one or not
+pub own-or-not : (img : List ℕ) (c : Column) (cs : List Column) → AllBorne img (c ∷ cs) → Every (λ w. Within 1 252 (w .height)) (towersOf (c ∷ cs))
+    → (towerIn (c .tower) ≡ []) ⊎ Own img c cs
+own-or-not img c cs b r = go (c .tower) refl b r
+  where
+    go : (o : Option Tower) → towerIn (c .tower) ≡ towerIn o → Every (λ x. Borne img (tower x)) (map (λ t. linked t (c .span .page) (towersOf cs)) (towerIn o) ++ linkTowers cs)
+        → Every (λ w. Within 1 252 (w .height)) (towerIn o ++ towersOf cs) → (towerIn (c .tower) ≡ []) ⊎ Own img c cs
+    go none e b r = inl e
+    go (some w) e b r = inr (record { own = w; has = e; borne = b .0; range = r .0 })
+
+-- the last tower above level l leads to the next one behind
+module _ (img : List ℕ) (l : ℕ) (ds : List Column) where
+  abbrev pub Leads : (p : ℕ) → List Column → Type 0
+  Leads p cs = IsPage img p × (be32 (pg img p) (16 + 4 * l) ≡ nextAt l (towersOf cs))
+
+  pub last-leads : (p : ℕ) (cs : List Column) → AllBorne img (cs ++ ds) → Leads p (cs ++ ds) → Leads (lastAt l p (towersOf cs)) ds
+  last-leads p [] b h = h
+  last-leads p (c ∷ cs) b h = go (c .tower) b h (λ q. last-leads q cs)
+    where
+      go : (o : Option Tower) → Every (λ x. Borne img (tower x)) (map (λ t. linked t (c .span .page) (towersOf (cs ++ ds))) (towerIn o) ++ linkTowers (cs ++ ds))
+          → IsPage img p × (be32 (pg img p) (16 + 4 * l) ≡ nextAt l (towerIn o ++ towersOf (cs ++ ds)))
+          → ((q : ℕ) → AllBorne img (cs ++ ds) → Leads q (cs ++ ds) → Leads (lastAt l q (towersOf cs)) ds)
+          → Leads (lastAt l p (towerIn o ++ towersOf cs)) ds
+      go none b h ih = ih p b h
+      go (some w) b h ih = by (ltb l (w .height)) refl (h .1)
+        where
+          by : (v : Bool) → ltb l (w .height) ≡ v → be32 (pg img p) (16 + 4 * l) ≡ cond v (w .page) (nextAt l (towersOf (cs ++ ds)))
+              → Leads (lastAt l (cond v (w .page) p) (towersOf cs)) ds
+          by true e k = ih (w .page) (b .1) (b .0 .1 .0, entry-here img w (c .span .page) (towersOf (cs ++ ds)) (b .0) l (ltb-true l (w .height) e))
+          by false e k = ih p (b .1) (h .0, k)
+
+-- ---- The towers of a table
+
+module _ {img : List ℕ} {root : ℕ} (t : Reading img root) where
+  all-towers : AllBorne img (columns (t .table))
+  all-towers =
+      every-unmap (Borne img) tower (towersIn (t .table)) (every-right (Borne img) (map span (spansIn (t .table))) (map tower (towersIn (t .table))) (t .readable .borne .1))
+
+  -- from a place on
+  pub towers-from : (i : ℕ) → AllBorne img (drop i (columns (t .table)))
+  towers-from i =
+      every-right (λ (x : LinkedTower). Borne img (tower x)) (towersBefore (t .table) i) (linkTowers (drop i (columns (t .table))))
+      (subst (Every (λ (x : LinkedTower). Borne img (tower x))) (towers-at (t .table) i) all-towers)
+
+  pub head-tall : t .table .head .height ≤ 252
+  head-tall = omega (arith, t .readable .ok .heights .0)
+
+  others-from : (j : ℕ) → Every (λ w. Within 1 (t .table .head .height) (w .height)) (towersOf (drop j (t .table .rest)))
+  others-from j =
+      every-right (λ (w : Tower). Within 1 (t .table .head .height) (w .height)) (towersOf (take j (t .table .rest))) (towersOf (drop j (t .table .rest)))
+      (subst (Every (λ (w : Tower). Within 1 (t .table .head .height) (w .height))) (towers-cut j (t .table .rest)) (t .readable .ok .others))
+
+  -- no tower is of height 0 but the head
+  pub tall-from : (j : ℕ) → Every (λ w. Within 1 252 (w .height)) (towersOf (drop j (t .table .rest)))
+  tall-from j =
+      every-so (λ (w : Tower). Within 1 (t .table .head .height) (w .height)) (λ w h. (h .0, omega (arith, h .1, head-tall))) (towersOf (drop j (t .table .rest))) (others-from j)
+
+  -- and none is higher than the head
+  pub above-head : (j l : ℕ) → t .table .head .height ≤ l → nextAt l (towersOf (drop j (t .table .rest))) ≡ 0
+  above-head j l h =
+      let ws : List Tower = towersOf (drop j (t .table .rest)) in
+      next-or l ws
+      ∙ next-low l 0 (t .table .head .height) ws (every-so (λ (w : Tower). Within 1 (t .table .head .height) (w .height)) (λ w h. h .1) ws (others-from j)) h
+
+  -- the head
+  pub head-borne : Borne img (tower (linked (t .table .head) (t .table .first .page) (towersOf (t .table .rest))))
+  head-borne = all-towers .0
+
+  pub reading-head : be32 (pg img root) 12 ≡ t .table .head .page
+  reading-head = subst (λ (p : ℕ). be32 (pg img p) 12 ≡ t .table .head .page) (t .root) (t .readable .borne .0 .0 .level)
