@@ -174,7 +174,7 @@ module _ (t : Table) (i : ℕ) (p : Parts) (s : Shared) (inside : i < length (co
 
 -- ---- A span unlinked
 
-take-rest : (k : ℕ) (cs : List Column) → k < length cs → take k (take (suc k - 1) cs ++ drop (suc k) cs) ≡ take k cs
+pub take-rest : (k : ℕ) (cs : List Column) → k < length cs → take k (take (suc k - 1) cs ++ drop (suc k) cs) ≡ take k cs
 take-rest k cs l =
     let e : suc k - 1 ≡ k = omega arith in
     rw e (take-at (take k cs) (drop (suc k) cs) k (simp length-take (omega arith)))

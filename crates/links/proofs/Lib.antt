@@ -4,3 +4,4 @@ pub mod Distinct
 pub mod Standing
 pub mod Passing
 pub mod Behind
+pub mod Relinked

@@ -4,7 +4,7 @@ use native.Mathlib.Omega.{arith}
 use native.Mathlib.Decide.{decLt}
 use mathlib.Core.Path.{_≡_, refl, ap, ap₂, sym, _∙_, subst}
 use mathlib.Core.Logic.{_≢_, _⊎_, inl, inr, by-cases}
-use mathlib.Core.Bool.{Bool, true, false, cond}
+use mathlib.Core.Bool.{Bool, cond}
 use mathlib.Core.Option.{some}
 use mathlib.Core.List.{List, [], _∷_, _++_, append-nil}
 use lib.ListN.{length, getD, take, drop, length-drop}
@@ -22,12 +22,7 @@ use Rattle.search.specs.Tables.{Reading}
 use Rattle.search.proofs.Tables.{reading-first}
 use Rattle.links.specs.Levels.{Filled, Before, SpanAt, SpanIn, firstEntry, Arrived, Passed}
 use Rattle.links.proofs.Distinct.{steps, place-inside, next-page, one-place, steps-from}
-use Rattle.links.proofs.Standing.{AllBorne, Stands, next-stands, Own, own-or-not, first-here, towers-from, tall-from, above-head, head-borne, reading-head}
-
--- the last tower in two rows
-last-append : (l p : ℕ) (ts us : List Tower) → lastAt l p (ts ++ us) ≡ lastAt l (lastAt l p ts) us
-last-append l p [] us = refl
-last-append l p (t ∷ ts) us = last-append l (cond (ltb l (t .height)) (t .page) p) ts us
+use Rattle.links.proofs.Standing.{AllBorne, last-append, last-first, Stands, next-stands, Own, own-or-not, first-here, towers-from, tall-from, above-head, head-borne, reading-head}
 
 -- ---- pass_span: at the span at place i, n is the next tower
 
@@ -178,15 +173,11 @@ passing-start {img} head span tower {old} {levels} e f g long all t i =
       here = f ∙ reading-first t;
       next = g ∙ ap (firstEntry img) top
           ∙ first-here img (t .table .head) (t .table .first .page) (towersOf (t .table .rest)) (head-borne t) (λ z. above-head t 0 0 (omega arith));
-      last = record { long = all .long ∙ long; last = λ l h. all .below l h ∙ top ∙ sym (same (ltb l (t .table .head .height))) };
+      last = record { long = all .long ∙ long; last = λ l h. all .below l h ∙ top ∙ sym (last-first l (t .table .head) []) };
     }
   where
     top : head ≡ t .table .head .page
     top = e ∙ reading-head t
-
-    same : (b : Bool) → cond b (t .table .head .page) (t .table .head .page) ≡ t .table .head .page
-    same true = refl
-    same false = refl
 
 module _ {img : List ℕ} {root : ℕ} {t : Reading img root} {i span tower target : ℕ} {levels : List ℕ} (w : Passing t i span tower levels) (s : SpanAt t target i) where
   pub passing-end : span ≡ target → Before (t .table) (suc i) levels

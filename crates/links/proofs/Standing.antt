@@ -16,14 +16,14 @@ use Rattle.blockfile.specs.Order.{Within}
 use Rattle.blockfile.specs.Fields.{LinkedTower}
 use Rattle.blockfile.specs.WellFormed.{span, tower, nextAt, linkTowers, spansIn, towersIn}
 use Rattle.blockfile.specs.Put.{lastAt}
-use Rattle.blockfile.proofs.Every.{every-right, every-so, every-unmap}
+use Rattle.blockfile.proofs.Every.{every-left, every-right, every-so, every-unmap}
 use Rattle.laws.proofs.Chains.{entry-at}
 use Rattle.laws.proofs.TowerLinks.{next-or, next-low}
 use Rattle.laws.proofs.Relinks.{towers-at, towersBefore, towers-cut}
 use Rattle.entries.specs.Places.{IsPage}
 use Rattle.search.specs.Spans.{Borne}
 use Rattle.search.specs.Tables.{Reading}
-use Rattle.links.specs.Levels.{firstEntry}
+use Rattle.links.specs.Levels.{Before, firstEntry}
 
 -- ---- One tower
 
@@ -101,26 +101,58 @@ own-or-not img c cs b r = go (c .tower) refl b r
     go none e b r = inl e
     go (some w) e b r = inr (record { own = w; has = e; borne = b .0; range = r .0 })
 
--- the last tower above level l leads to the next one behind
-module _ (img : List ℕ) (l : ℕ) (ds : List Column) where
-  abbrev pub Leads : (p : ℕ) → List Column → Type 0
-  Leads p cs = IsPage img p × (be32 (pg img p) (16 + 4 * l) ≡ nextAt l (towersOf cs))
+-- the towers are on pages of the image
+tower-pages : (img : List ℕ) (cs : List Column) → AllBorne img cs → Every (λ w. IsPage img (w .page)) (towersOf cs)
+tower-pages img [] b = tt
+tower-pages img (c ∷ cs) b = go (c .tower) b (tower-pages img cs)
+  where
+    go : (o : Option Tower) → Every (λ x. Borne img (tower x)) (map (λ t. linked t (c .span .page) (towersOf cs)) (towerIn o) ++ linkTowers cs)
+        → (AllBorne img cs → Every (λ w. IsPage img (w .page)) (towersOf cs)) → Every (λ w. IsPage img (w .page)) (towerIn o ++ towersOf cs)
+    go none b ih = ih b
+    go (some w) b ih = (b .0 .1 .0, ih (b .1))
 
-  pub last-leads : (p : ℕ) (cs : List Column) → AllBorne img (cs ++ ds) → Leads p (cs ++ ds) → Leads (lastAt l p (towersOf cs)) ds
-  last-leads p [] b h = h
-  last-leads p (c ∷ cs) b h = go (c .tower) b h (λ q. last-leads q cs)
-    where
-      go : (o : Option Tower) → Every (λ x. Borne img (tower x)) (map (λ t. linked t (c .span .page) (towersOf (cs ++ ds))) (towerIn o) ++ linkTowers (cs ++ ds))
-          → IsPage img p × (be32 (pg img p) (16 + 4 * l) ≡ nextAt l (towerIn o ++ towersOf (cs ++ ds)))
-          → ((q : ℕ) → AllBorne img (cs ++ ds) → Leads q (cs ++ ds) → Leads (lastAt l q (towersOf cs)) ds)
-          → Leads (lastAt l p (towerIn o ++ towersOf cs)) ds
-      go none b h ih = ih p b h
-      go (some w) b h ih = by (ltb l (w .height)) refl (h .1)
-        where
-          by : (v : Bool) → ltb l (w .height) ≡ v → be32 (pg img p) (16 + 4 * l) ≡ cond v (w .page) (nextAt l (towersOf (cs ++ ds)))
-              → Leads (lastAt l (cond v (w .page) p) (towersOf cs)) ds
-          by true e k = ih (w .page) (b .1) (b .0 .1 .0, entry-here img w (c .span .page) (towersOf (cs ++ ds)) (b .0) l (ltb-true l (w .height) e))
-          by false e k = ih p (b .1) (h .0, k)
+-- the last tower above level l leads to the next one behind
+pub last-leads : (img : List ℕ) (l : ℕ) (ds : List Column) (p : ℕ) (cs : List Column) → AllBorne img (cs ++ ds)
+    → be32 (pg img p) (16 + 4 * l) ≡ nextAt l (towersOf (cs ++ ds)) → be32 (pg img (lastAt l p (towersOf cs))) (16 + 4 * l) ≡ nextAt l (towersOf ds)
+last-leads img l ds p [] b h = h
+last-leads img l ds p (c ∷ cs) b h = go (c .tower) b h (λ q. last-leads img l ds q cs)
+  where
+    go : (o : Option Tower) → Every (λ x. Borne img (tower x)) (map (λ t. linked t (c .span .page) (towersOf (cs ++ ds))) (towerIn o) ++ linkTowers (cs ++ ds))
+        → be32 (pg img p) (16 + 4 * l) ≡ nextAt l (towerIn o ++ towersOf (cs ++ ds))
+        → ((q : ℕ) → AllBorne img (cs ++ ds) → be32 (pg img q) (16 + 4 * l) ≡ nextAt l (towersOf (cs ++ ds))
+        → be32 (pg img (lastAt l q (towersOf cs))) (16 + 4 * l) ≡ nextAt l (towersOf ds))
+        → be32 (pg img (lastAt l p (towerIn o ++ towersOf cs))) (16 + 4 * l) ≡ nextAt l (towersOf ds)
+    go none b h ih = ih p b h
+    go (some w) b h ih = by (ltb l (w .height)) refl h
+      where
+        by : (v : Bool) → ltb l (w .height) ≡ v → be32 (pg img p) (16 + 4 * l) ≡ cond v (w .page) (nextAt l (towersOf (cs ++ ds)))
+            → be32 (pg img (lastAt l (cond v (w .page) p) (towersOf cs))) (16 + 4 * l) ≡ nextAt l (towersOf ds)
+        by true e k = ih (w .page) (b .1) (entry-here img w (c .span .page) (towersOf (cs ++ ds)) (b .0) l (ltb-true l (w .height) e))
+        by false e k = ih p (b .1) k
+
+-- ---- The last tower
+
+-- it is one of the towers, or the page given
+last-is : (R : ℕ → Type 0) (l p : ℕ) (ts : List Tower) → R p → Every (λ w. R (w .page)) ts → R (lastAt l p ts)
+last-is R l p [] r h = r
+last-is R l p (t ∷ ts) r h = last-is R l (cond (ltb l (t .height)) (t .page) p) ts (go (ltb l (t .height))) (h .1)
+  where
+    go : (b : Bool) → R (cond b (t .page) p)
+    go true = h .0
+    go false = r
+
+-- in two rows
+pub last-append : (l p : ℕ) (ts us : List Tower) → lastAt l p (ts ++ us) ≡ lastAt l (lastAt l p ts) us
+last-append l p [] us = refl
+last-append l p (t ∷ ts) us = last-append l (cond (ltb l (t .height)) (t .page) p) ts us
+
+-- where no other is higher it is the first, whatever its height
+pub last-first : (l : ℕ) (w : Tower) (ts : List Tower) → lastAt l (w .page) (w ∷ ts) ≡ lastAt l (w .page) ts
+last-first l w ts = ap (λ (p : ℕ). lastAt l p ts) (go (ltb l (w .height)))
+  where
+    go : (b : Bool) → cond b (w .page) (w .page) ≡ w .page
+    go true = refl
+    go false = refl
 
 -- ---- The towers of a table
 
@@ -161,3 +193,12 @@ module _ {img : List ℕ} {root : ℕ} (t : Reading img root) where
 
   pub reading-head : be32 (pg img root) 12 ≡ t .table .head .page
   reading-head = subst (λ (p : ℕ). be32 (pg img p) 12 ≡ t .table .head .page) (t .root) (t .readable .borne .0 .0 .level)
+
+  -- the last towers before a place are on pages of the image
+  pub before-page : {j : ℕ} {levels : List ℕ} → Before (t .table) j levels → (l : ℕ) → l < 252 → IsPage img (getD levels l 0)
+  before-page {j} b l h =
+      let cs : List Column = columns (t .table) in
+      subst (IsPage img) (sym (b .last l h))
+      (last-is (IsPage img) l (t .table .head .page) (towersOf (take j cs)) (head-borne .1 .0)
+      (every-left (λ (w : Tower). IsPage img (w .page)) (towersOf (take j cs)) (towersOf (drop j cs))
+      (subst (Every (λ (w : Tower). IsPage img (w .page))) (towers-cut j cs) (tower-pages img cs all-towers))))

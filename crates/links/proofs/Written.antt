@@ -2,22 +2,19 @@
 use Prim.Native.Nat.{ℕ, zero, suc, _+_, _*_, _-_, _<_, _≤_}
 use native.Mathlib.Omega.{arith}
 use native.Mathlib.Nat.{zero-add}
-use mathlib.Core.Path.{_≡_, refl, ap, ap₂, sym, _∙_}
+use mathlib.Core.Path.{_≡_, refl, ap, sym, _∙_}
 use mathlib.Core.List.{List, [], _∷_, _++_, map, map-append, append-assoc, append-nil}
-use lib.ListN.{length, getD, take, drop, replicate, length-append}
+use lib.ListN.{length, getD, replicate, length-append}
 use Rattle.blockfile.specs.Bytes.{Write, on, word16, word32, write, apply, gather, from}
 use Rattle.blockfile.specs.Marks.{skipMark, towerMark}
-use Rattle.blockfile.specs.Layout.{Table, columns, towersOf}
-use Rattle.blockfile.specs.WellFormed.{nextAt}
 use Rattle.blockfile.specs.Encode.{wholeTower, counts, wholeSkipList}
-use Rattle.blockfile.specs.Put.{lastAt, relink}
 use Rattle.laws.proofs.Numbers.{length-word16, length-word32}
 use Rattle.laws.proofs.Pages.{length-write, write-append, write-padded}
 use Rattle.laws.proofs.Places.{gather-append}
 use Rattle.laws.proofs.Writes.{apply-append}
 use Rattle.laws.proofs.Encodes.{length-numbers32}
 use Rattle.laws.proofs.Fitting.{length-levels}
-use Rattle.laws.proofs.TowerLinks.{map-from, from-append}
+use Rattle.laws.proofs.TowerLinks.{from-append}
 use Rattle.pages.specs.Places.{Inside}
 use Rattle.links.specs.Links.{linkWrites, Linkable, levelsBelow, towerAs, skipListAs}
 
@@ -51,17 +48,6 @@ module _ {img₀ before values : List ℕ} {h : ℕ} {img : List ℕ} {i : ℕ} 
 
   pub linking-all : h ≤ i → img ≡ apply (linkWrites before values h) img₀
   linking-all b = let e : i ≡ h = omega (arith, l .most) in l .is ∙ ap (λ (n : ℕ). apply (linkWrites before values n) img₀) e
-
--- the writes are the text's where each level has the last tower before place j and the next one from there on
-pub links-relink : (after : Table) (j h : ℕ) (before values : List ℕ)
-    → ((i : ℕ) → i < h → getD before i 0 ≡ lastAt i (after .head .page) (towersOf (take j (columns after))))
-    → ((i : ℕ) → i < h → getD values i 0 ≡ nextAt i (towersOf (drop j (columns after))))
-    → linkWrites before values h ≡ relink after j h
-unfolding relink
-links-relink after j h before values b v =
-    map-from (λ i. on (getD before i 0) (16 + 4 * i) (word32 (getD values i 0)))
-    (λ i. on (lastAt i (after .head .page) (towersOf (take j (columns after)))) (16 + 4 * i) (word32 (nextAt i (towersOf (drop j (columns after)))))) 0 h
-    (λ i _ l. ap₂ (λ (p n : ℕ). on p (16 + 4 * i) (word32 n)) (b i (omega arith)) (v i (omega arith)))
 
 -- ---- put_entries: i entries are written
 
@@ -98,12 +84,6 @@ module _ {img₀ : List ℕ} {page h : ℕ} {nexts img : List ℕ} {i : ℕ} (l 
 
   pub entering-all : h ≤ i → img ≡ write img₀ page 16 (gather word32 (levelsBelow nexts h))
   entering-all b = let e : i ≡ h = omega (arith, l .most) in l .is ∙ ap (λ (n : ℕ). write img₀ page 16 (gather word32 (levelsBelow nexts n))) e
-
--- the entries are the text's where each level has the next tower
-pub levels-next : (after : Table) (j h : ℕ) (values : List ℕ) → ((i : ℕ) → i < h → getD values i 0 ≡ nextAt i (towersOf (drop j (columns after))))
-    → levelsBelow values h ≡ map (λ i. nextAt i (towersOf (drop j (columns after)))) (from 0 h)
-levels-next after j h values v =
-    map-from (λ i. getD values i 0) (λ i. nextAt i (towersOf (drop j (columns after)))) 0 h (λ i _ l. v i (omega arith))
 
 -- ---- Whole pages
 

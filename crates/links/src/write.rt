@@ -38,7 +38,14 @@ fn put_entries(image: &mut [u8], page: usize, height: usize, nexts: &[usize; 252
 }
 
 // A tower's page written whole; its entries are the first `height` numbers of `nexts`.
-pub fn put_tower(image: &mut [u8], page: usize, max: usize, height: usize, span: usize, nexts: &[usize; 252])
+pub fn put_tower(
+    image: &mut [u8],
+    page: usize,
+    max: usize,
+    height: usize,
+    span: usize,
+    nexts: &[usize; 252],
+)
     requires { ⌜ Inside (now image) page 0 1024 × (height ≤ 252) ⌝ }
     ensures { λ _. ⌜ now (image .exit) ≡ apply (wholeTower (towerAs page max height span (levelsBelow (now (nexts .entry)) height))) (now (image .entry)) ⌝ }
 {
