@@ -7,7 +7,7 @@ use mathlib.Core.Logic.{by-cases}
 use mathlib.Core.List.{List, _++_}
 use lib.ListN.{length, getD, take, drop, take-append-drop}
 use Rattle.blockfile.specs.Bytes.{pg, be16, be32}
-use Rattle.blockfile.specs.Layout.{Column, columns, towersOf}
+use Rattle.blockfile.specs.Layout.{Column, towersOf}
 use Rattle.blockfile.specs.WellFormed.{nextAt}
 use Rattle.pages.specs.Places.{Inside}
 use Rattle.entries.specs.Places.{IsPage}

@@ -2,7 +2,7 @@
 use Prim.Native.Nat.{ℕ, zero, suc, _+_, _*_, _-_, _≤_, _<_}
 use native.Mathlib.Omega.{arith}
 use native.Mathlib.Decide.{decLt}
-use mathlib.Core.Path.{_≡_, refl, ap, ap₂, sym, _∙_, subst}
+use mathlib.Core.Path.{_≡_, ap, ap₂, sym, _∙_, subst}
 use mathlib.Core.Logic.{_≢_, _⊎_, inl, inr, by-cases}
 use mathlib.Core.Bool.{Bool, cond}
 use mathlib.Core.Option.{some}
@@ -12,7 +12,7 @@ use lib.Seq.{drop-cons, take-suc, getD-drop}
 use lib.Dec.{ltb}
 use borrow.Author.Tests.{lt-ltb, le-ltb}
 use Rattle.blockfile.specs.Bytes.{pg, be16, be32, Every}
-use Rattle.blockfile.specs.Layout.{Span, Tower, Column, Table, columns, spansOf, towersOf, towerIn}
+use Rattle.blockfile.specs.Layout.{Span, Tower, Column, columns, spansOf, towersOf, towerIn}
 use Rattle.blockfile.specs.Order.{Within}
 use Rattle.blockfile.specs.WellFormed.{nextAt}
 use Rattle.blockfile.specs.Put.{lastAt, spanAt}
@@ -20,7 +20,7 @@ use Rattle.laws.proofs.Places.{columnAt, span-at, towers-append, drop-map}
 use Rattle.pages.specs.Places.{Inside}
 use Rattle.search.specs.Tables.{Reading}
 use Rattle.search.proofs.Tables.{reading-first}
-use Rattle.links.specs.Levels.{Filled, Before, SpanAt, SpanIn, firstEntry, Arrived, Passed}
+use Rattle.links.specs.Levels.{Filled, Before, SpanAt, firstEntry, Arrived, Passed}
 use Rattle.links.proofs.Distinct.{steps, place-inside, next-page, one-place, steps-from}
 use Rattle.links.proofs.Standing.{AllBorne, last-append, last-first, Stands, next-stands, Own, own-or-not, first-here, towers-from, tall-from, above-head, head-borne, reading-head}
 

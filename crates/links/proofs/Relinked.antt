@@ -2,22 +2,19 @@
 use Prim.Native.Nat.{ℕ, suc, _+_, _*_, _≤_, _<_, min}
 use native.Mathlib.Omega.{arith}
 use native.Mathlib.Numerals.{add-one}
-use mathlib.Core.Path.{_≡_, refl, ap, ap₂, sym, _∙_, subst}
+use mathlib.Core.Path.{_≡_, refl, ap, ap₂, sym, _∙_}
 use mathlib.Core.Bool.{Bool, cond}
-use mathlib.Core.List.{List, [], _∷_, _++_, map}
+use mathlib.Core.List.{List, _∷_, _++_}
 use lib.ListN.{length, getD, take, drop}
-use lib.Dec.{ltb}
 use borrow.Author.Tests.{lt-ltb}
-use Rattle.blockfile.specs.Bytes.{Write, on, word32, gather, from}
+use Rattle.blockfile.specs.Bytes.{on, word32, gather}
 use Rattle.blockfile.specs.Layout.{Tower, Column, Table, columns, towersOf}
-use Rattle.blockfile.specs.Fields.{LinkedTower}
 use Rattle.blockfile.specs.WellFormed.{nextAt, linkTowers}
 use Rattle.blockfile.specs.Encode.{wholeTower}
 use Rattle.blockfile.specs.Put.{Parts, Shared, newColumn, newColumns, tableAfter, lastAt, relink}
 use Rattle.blockfile.specs.Remove.{without}
-use Rattle.laws.proofs.Places.{towers-append}
 use Rattle.laws.proofs.TowerLinks.{seatsOf, seated, linkSeats, seated-towers, map-from}
-use Rattle.laws.proofs.TableTowers.{head-after, seats-after, behind-after, newLinked, tower-written, take-rest, behind-gone}
+use Rattle.laws.proofs.TableTowers.{head-after, seats-after, behind-after, tower-written, take-rest, behind-gone}
 use Rattle.entries.specs.Places.{IsPage}
 use Rattle.search.specs.Tables.{Reading}
 use Rattle.links.specs.Links.{linkWrites, Linkable, levelsBelow, towerAs}

@@ -1,5 +1,5 @@
 -- Towers in the bytes: where they stand, and their entries.
-use Prim.Native.Nat.{ℕ, zero, suc, _+_, _*_, _≤_, _<_}
+use Prim.Native.Nat.{ℕ, suc, _+_, _*_, _≤_, _<_}
 use native.Mathlib.Omega.{arith}
 use native.Mathlib.Decide.{ℕ-discrete}
 use mathlib.Core.Path.{_≡_, refl, ap, sym, _∙_, subst}
@@ -8,10 +8,10 @@ use mathlib.Core.Logic.{_⊎_, inl, inr}
 use mathlib.Core.Option.{Option, none, some}
 use mathlib.Core.List.{List, [], _∷_, _++_, map}
 use lib.ListN.{length, getD, take, drop}
-use lib.Dec.{ltb, eqb}
+use lib.Dec.{ltb}
 use borrow.Author.Tests.{ltb-true, eq-eqb, ne-eqb}
 use Rattle.blockfile.specs.Bytes.{pg, be16, be32, Every, from}
-use Rattle.blockfile.specs.Layout.{Span, Tower, Column, Table, columns, spansOf, towersOf, towerIn}
+use Rattle.blockfile.specs.Layout.{Span, Tower, Column, columns, spansOf, towersOf, towerIn}
 use Rattle.blockfile.specs.Order.{Within}
 use Rattle.blockfile.specs.Fields.{LinkedTower}
 use Rattle.blockfile.specs.WellFormed.{span, tower, nextAt, linkTowers, spansIn, towersIn}

@@ -18,10 +18,10 @@ pub fn link_levels(image: &mut [u8], before: &[usize; 252], values: &[usize; 252
     requires { ⌜ Linkable (now image) (now before) height ⌝ }
     ensures { λ _. ⌜ now (image .exit) ≡ apply (linkWrites (now (before .entry)) (now (values .entry)) height) (now (image .entry)) ⌝ }
 {
-    let mut i = 0;
-    while i < height {
-        put32(image, before[i], 16 + 4 * i, values[i]);
-        i += 1;
+    let mut level = 0;
+    while level < height {
+        put32(image, before[level], 16 + 4 * level, values[level]);
+        level += 1;
     }
 }
 

@@ -1,5 +1,5 @@
 -- `links::around::towers_after` meets its contract: the levels that were passed are entries of the last towers.
-use Prim.Native.Nat.{ℕ, _-_, _≤_}
+use Prim.Native.Nat.{_-_, _≤_}
 use native.Mathlib.Omega.{arith}
 use mathlib.Core.Path.{_≡_, _∙_}
 use lib.ListN.{length}

@@ -6,10 +6,10 @@ use Rattle.links.proofs.write.link_levels.Statement.{statement}
 use Rattle.links.proofs.write.link_levels.Tie as tie
 
 abbrev Inv-loop : tie.InvT-loop
-Inv-loop image₀ before values height i₀ image i = Linking image₀ before values height image i
+Inv-loop image₀ before values height level₀ image level = Linking image₀ before values height image level
 
 abbrev μ-loop : tie.MeasureT-loop
-μ-loop image₀ before values height i₀ image i = height - i
+μ-loop image₀ before values height level₀ image level = height - level
 
 put32-requires : tie.Need-put32-requires Inv-loop μ-loop
 put32-requires c κs =
