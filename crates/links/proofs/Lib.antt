@@ -4,4 +4,5 @@ pub mod Distinct
 pub mod Standing
 pub mod Passing
 pub mod Behind
+pub mod Owner
 pub mod Relinked

@@ -6,9 +6,9 @@ use mathlib.Core.Path.{_≡_, ap, ap₂, sym, _∙_, subst}
 use mathlib.Core.Logic.{_≢_, _⊎_, inl, inr, by-cases}
 use mathlib.Core.Bool.{Bool, cond}
 use mathlib.Core.Option.{some}
-use mathlib.Core.List.{List, [], _∷_, _++_, append-nil}
+use mathlib.Core.List.{List, [], _∷_, _++_}
 use lib.ListN.{length, getD, take, drop, length-drop}
-use lib.Seq.{drop-cons, take-suc, getD-drop}
+use lib.Seq.{drop-cons, getD-drop}
 use lib.Dec.{ltb}
 use borrow.Author.Tests.{lt-ltb, le-ltb}
 use Rattle.blockfile.specs.Bytes.{pg, be16, be32, Every}
@@ -16,13 +16,13 @@ use Rattle.blockfile.specs.Layout.{Span, Tower, Column, columns, spansOf, tower
 use Rattle.blockfile.specs.Order.{Within}
 use Rattle.blockfile.specs.WellFormed.{nextAt}
 use Rattle.blockfile.specs.Put.{lastAt, spanAt}
-use Rattle.laws.proofs.Places.{columnAt, span-at, towers-append, drop-map}
+use Rattle.laws.proofs.Places.{columnAt, span-at, drop-map}
 use Rattle.pages.specs.Places.{Inside}
 use Rattle.search.specs.Tables.{Reading}
 use Rattle.search.proofs.Tables.{reading-first}
 use Rattle.links.specs.Levels.{Filled, Before, SpanAt, firstEntry, Arrived, Passed}
 use Rattle.links.proofs.Distinct.{steps, place-inside, next-page, one-place, steps-from}
-use Rattle.links.proofs.Standing.{AllBorne, last-append, last-first, Stands, next-stands, Own, own-or-not, first-here, towers-from, tall-from, above-head, head-borne, reading-head}
+use Rattle.links.proofs.Standing.{AllBorne, last-with, last-first, Stands, next-stands, Own, own-or-not, first-here, towers-from, tall-from, above-head, head-borne, reading-head}
 
 -- ---- pass_span: at the span at place i, n is the next tower
 
@@ -78,12 +78,7 @@ module _ {img : List ℕ} {root : ℕ} {t : Reading img root} {span n i : ℕ} {
   last-here : (ws : List Tower) → towerIn (here .tower) ≡ ws → (l : ℕ) → l < 252
       → lastAt l (t .table .head .page) (towersOf (take (suc i) (columns (t .table)))) ≡ lastAt l (getD levels l 0) ws
   last-here ws e l h =
-      let p : ℕ = t .table .head .page in
-      let ts : List Tower = towersOf (take i (columns (t .table))) in
-      ap (λ (cs : List Column). lastAt l p (towersOf cs)) (take-suc (columns (t .table)) i (record { span = t .table .first; tower = some (t .table .head) }) (a .at .there))
-      ∙ ap (lastAt l p) (towers-append (take i (columns (t .table))) (here ∷ []))
-      ∙ last-append l p ts (towerIn (here .tower) ++ [])
-      ∙ ap₂ (λ (q : ℕ) (us : List Tower). lastAt l q us) (sym (a .last .last l h)) (append-nil (towerIn (here .tower)) ∙ e)
+      last-with (t .table) i (a .at .there) l ∙ ap₂ (λ (q : ℕ) (us : List Tower). lastAt l q us) (sym (a .last .last l h)) e
 
   -- ---- No tower of its own: the next tower is another span's, or there is none
 

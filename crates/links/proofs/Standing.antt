@@ -1,23 +1,25 @@
 -- Towers in the bytes: where they stand, and their entries.
-use Prim.Native.Nat.{ℕ, suc, _+_, _*_, _≤_, _<_}
+use Prim.Native.Nat.{ℕ, zero, suc, _+_, _*_, _≤_, _<_}
 use native.Mathlib.Omega.{arith}
 use native.Mathlib.Decide.{ℕ-discrete}
 use mathlib.Core.Path.{_≡_, refl, ap, sym, _∙_, subst}
 use mathlib.Core.Bool.{Bool, true, false, cond}
 use mathlib.Core.Logic.{_⊎_, inl, inr}
 use mathlib.Core.Option.{Option, none, some}
-use mathlib.Core.List.{List, [], _∷_, _++_, map}
+use mathlib.Core.List.{List, [], _∷_, _++_, map, append-nil}
 use lib.ListN.{length, getD, take, drop}
+use lib.Seq.{take-suc}
 use lib.Dec.{ltb}
 use borrow.Author.Tests.{ltb-true, eq-eqb, ne-eqb}
 use Rattle.blockfile.specs.Bytes.{pg, be16, be32, Every, from}
-use Rattle.blockfile.specs.Layout.{Span, Tower, Column, columns, spansOf, towersOf, towerIn}
+use Rattle.blockfile.specs.Layout.{Span, Tower, Column, Table, columns, spansOf, towersOf, towerIn}
 use Rattle.blockfile.specs.Order.{Within}
 use Rattle.blockfile.specs.Fields.{LinkedTower}
 use Rattle.blockfile.specs.WellFormed.{span, tower, nextAt, linkTowers, spansIn, towersIn}
 use Rattle.blockfile.specs.Put.{lastAt}
 use Rattle.blockfile.proofs.Every.{every-left, every-right, every-so, every-unmap}
 use Rattle.laws.proofs.Chains.{entry-at}
+use Rattle.laws.proofs.Places.{columnAt, towers-append}
 use Rattle.laws.proofs.TowerLinks.{next-or, next-low}
 use Rattle.laws.proofs.Relinks.{towers-at, towersBefore, towers-cut}
 use Rattle.entries.specs.Places.{IsPage}
@@ -111,6 +113,23 @@ tower-pages img (c ∷ cs) b = go (c .tower) b (tower-pages img cs)
     go none b ih = ih b
     go (some w) b ih = (b .0 .1 .0, ih (b .1))
 
+-- n names one of the first m of these spans
+abbrev pub Names : (img : List ℕ) (d : Span) (m : ℕ) (cs : List Column) (n : ℕ) → Type 0
+Names img d m cs n = (q : ℕ) × (q < m) × (be32 (pg img n) 12 ≡ getD (spansOf cs) q d .page)
+
+-- as the towers of the first m columns do
+tower-names : (img : List ℕ) (d : Span) (m : ℕ) (cs : List Column) → AllBorne img cs → Every (λ w. Names img d m cs (w .page)) (towersOf (take m cs))
+tower-names img d zero cs b = tt
+tower-names img d (suc m) [] b = tt
+tower-names img d (suc m) (c ∷ cs) b =
+    go (c .tower) b (λ h. every-so (λ (w : Tower). Names img d m cs (w .page)) (λ w n. (suc (n .0), omega (arith, n .1), n .2)) (towersOf (take m cs)) (tower-names img d m cs h))
+  where
+    go : (o : Option Tower) → Every (λ x. Borne img (tower x)) (map (λ t. linked t (c .span .page) (towersOf cs)) (towerIn o) ++ linkTowers cs)
+        → (AllBorne img cs → Every (λ w. Names img d (suc m) (c ∷ cs) (w .page)) (towersOf (take m cs)))
+        → Every (λ w. Names img d (suc m) (c ∷ cs) (w .page)) (towerIn o ++ towersOf (take m cs))
+    go none b ih = ih b
+    go (some w) b ih = ((0, omega arith, b .0 .0 .spanPage), ih (b .1))
+
 -- the last tower above level l leads to the next one behind
 pub last-leads : (img : List ℕ) (l : ℕ) (ds : List Column) (p : ℕ) (cs : List Column) → AllBorne img (cs ++ ds)
     → be32 (pg img p) (16 + 4 * l) ≡ nextAt l (towersOf (cs ++ ds)) → be32 (pg img (lastAt l p (towersOf cs))) (16 + 4 * l) ≡ nextAt l (towersOf ds)
@@ -142,7 +161,7 @@ last-is R l p (t ∷ ts) r h = last-is R l (cond (ltb l (t .height)) (t .page) p
     go false = r
 
 -- in two rows
-pub last-append : (l p : ℕ) (ts us : List Tower) → lastAt l p (ts ++ us) ≡ lastAt l (lastAt l p ts) us
+last-append : (l p : ℕ) (ts us : List Tower) → lastAt l p (ts ++ us) ≡ lastAt l (lastAt l p ts) us
 last-append l p [] us = refl
 last-append l p (t ∷ ts) us = last-append l (cond (ltb l (t .height)) (t .page) p) ts us
 
@@ -153,6 +172,16 @@ last-first l w ts = ap (λ (p : ℕ). lastAt l p ts) (go (ltb l (w .height)))
     go : (b : Bool) → cond b (w .page) (w .page) ≡ w .page
     go true = refl
     go false = refl
+
+-- of a table, with the tower at one more place
+pub last-with : (t : Table) (i : ℕ) → i < length (columns t) → (l : ℕ)
+    → lastAt l (t .head .page) (towersOf (take (suc i) (columns t))) ≡ lastAt l (lastAt l (t .head .page) (towersOf (take i (columns t)))) (towerIn (columnAt t i .tower))
+last-with t i h l =
+    let p : ℕ = t .head .page in
+    ap (λ (cs : List Column). lastAt l p (towersOf cs)) (take-suc (columns t) i (record { span = t .first; tower = some (t .head) }) h)
+    ∙ ap (lastAt l p) (towers-append (take i (columns t)) (columnAt t i ∷ []))
+    ∙ last-append l p (towersOf (take i (columns t))) (towerIn (columnAt t i .tower) ++ [])
+    ∙ ap (lastAt l (lastAt l p (towersOf (take i (columns t))))) (append-nil (towerIn (columnAt t i .tower)))
 
 -- ---- The towers of a table
 
@@ -193,6 +222,12 @@ module _ {img : List ℕ} {root : ℕ} (t : Reading img root) where
 
   pub reading-head : be32 (pg img root) 12 ≡ t .table .head .page
   reading-head = subst (λ (p : ℕ). be32 (pg img p) 12 ≡ t .table .head .page) (t .root) (t .readable .borne .0 .0 .level)
+
+  -- the last tower before a place, not the first, names a span before it
+  pub last-names : (j l : ℕ) → Names img (t .table .first) (suc j) (columns (t .table)) (lastAt l (t .table .head .page) (towersOf (take (suc j) (columns (t .table)))))
+  last-names j l =
+      last-is (Names img (t .table .first) (suc j) (columns (t .table))) l (t .table .head .page) (towersOf (take (suc j) (columns (t .table))))
+      (0, omega arith, head-borne .0 .spanPage) (tower-names img (t .table .first) (suc j) (columns (t .table)) all-towers)
 
   -- the last towers before a place are on pages of the image
   pub before-page : {j : ℕ} {levels : List ℕ} → Before (t .table) j levels → (l : ℕ) → l < 252 → IsPage img (getD levels l 0)

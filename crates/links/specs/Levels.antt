@@ -2,13 +2,14 @@
 use Prim.Native.Nat.{ℕ, suc, _≤_, _<_}
 use mathlib.Core.Path.{_≡_}
 use mathlib.Core.Bool.{cond}
-use mathlib.Core.List.{List}
+use mathlib.Core.List.{List, [], _∷_}
 use lib.ListN.{length, getD, take, drop}
 use lib.Dec.{eqb}
 use Rattle.blockfile.specs.Bytes.{pg, be16, be32}
-use Rattle.blockfile.specs.Layout.{Table, columns, towersOf}
+use Rattle.blockfile.specs.Layout.{Tower, Table, columns, towersOf}
 use Rattle.blockfile.specs.WellFormed.{nextAt}
 use Rattle.blockfile.specs.Put.{lastAt, spanAt}
+use Rattle.blockfile.specs.Remove.{towersAt}
 use Rattle.search.specs.Tables.{Reading}
 
 -- the levels, where each level l below h becomes f l, are `out`
@@ -79,3 +80,22 @@ pub record HasBefore (img : List ℕ) (root : ℕ) (levels : List ℕ) : Type 0 
 -- with the last towers before any such place, `out` has the next ones
 pub record AfterIn (img : List ℕ) (root : ℕ) (levels out : List ℕ) : Type 0 where
   pub is : (t : Reading img root) (i : ℕ) → Before (t .table) (suc i) levels → After (t .table) (suc i) out
+
+-- ---- tower_of
+
+-- the levels have the last towers up to the span on the page
+pub record HasTowers (img : List ℕ) (page : ℕ) (levels : List ℕ) : Type 0 where
+  pub root : ℕ
+  pub reading : Reading img root
+  pub place : ℕ
+  pub at : SpanAt reading page place
+  pub before : Before (reading .table) (suc place) levels
+
+-- r is the page of the tower at place i of the table, 0 if there is none
+pub record TowerAt {img : List ℕ} {root : ℕ} (t : Reading img root) (i r : ℕ) : Type 0 where
+  pub none : r ≡ 0 → towersAt (t .table) i ≡ []
+  pub some : (r ≡ 0 → ⊥) → (w : Tower) × (towersAt (t .table) i ≡ w ∷ []) × (r ≡ w .page) × (be16 (pg img r) 10 ≡ w .height)
+
+-- wherever the span on the page is at a place and the levels have the last towers up to it
+pub record TowerOn (img : List ℕ) (page : ℕ) (levels : List ℕ) (r : ℕ) : Type 0 where
+  pub is : (root : ℕ) (t : Reading img root) (i : ℕ) → SpanAt t page i → Before (t .table) (suc i) levels → TowerAt t i r

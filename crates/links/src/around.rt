@@ -3,7 +3,7 @@ ghost use Prim.Native.Nat.{_≤_};
 ghost use mathlib.Core.Path.{_≡_};
 ghost use lib.ListN.{length};
 ghost use Rattle.pages.specs.Places.{Inside};
-ghost use Rattle.links.specs.Levels.{Filled, SpanIn, BeforeIn, firstEntry, Arrives, Passed, HasBefore, AfterIn};
+ghost use Rattle.links.specs.Levels.{Filled, SpanIn, BeforeIn, firstEntry, Arrives, Passed, HasBefore, AfterIn, HasTowers, TowerOn};
 use pages::read::get16;
 use pages::read::get32;
 
@@ -71,4 +71,17 @@ pub fn towers_after(image: &[u8], root: usize, before: &[usize; 252], after: &mu
         after[i] = get32(image, before[i], 16 + 4 * i);
         i += 1;
     }
+}
+
+// The page of the tower of the span on `target`, 0 if it has none, where `before` has the last towers up to that span: the
+// last of all is the span's if it names the span.
+pub fn tower_of(image: &[u8], target: usize, before: &[usize; 252]) -> usize
+    requires { ⌜ HasTowers (now image) target (now before) ⌝ }
+    ensures { λ r. ⌜ TowerOn (now (image .entry)) target (now (before .entry)) r ⌝ }
+{
+    let last = before[0];
+    if get32(image, last, 12) != target {
+        return 0;
+    }
+    last
 }
