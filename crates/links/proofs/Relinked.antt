@@ -4,20 +4,21 @@ use native.Mathlib.Omega.{arith}
 use native.Mathlib.Numerals.{add-one}
 use mathlib.Core.Path.{_≡_, refl, ap, ap₂, sym, _∙_}
 use mathlib.Core.Bool.{Bool, cond}
-use mathlib.Core.List.{List, _∷_, _++_}
+use mathlib.Core.List.{List, [], _∷_, _++_}
 use lib.ListN.{length, getD, take, drop}
 use borrow.Author.Tests.{lt-ltb}
-use Rattle.blockfile.specs.Bytes.{on, word32, gather}
-use Rattle.blockfile.specs.Layout.{Tower, Column, Table, columns, towersOf}
-use Rattle.blockfile.specs.WellFormed.{nextAt, linkTowers}
-use Rattle.blockfile.specs.Encode.{wholeTower}
-use Rattle.blockfile.specs.Put.{Parts, Shared, newColumn, newColumns, tableAfter, lastAt, relink}
+use Rattle.blockfile.specs.Bytes.{on, word32, write, apply, gather}
+use Rattle.blockfile.specs.Layout.{Tower, Column, Table, columns, towersOf, entriesOf}
+use Rattle.blockfile.specs.WellFormed.{nextAt, linkTowers, towersIn, skipListOf}
+use Rattle.blockfile.specs.Encode.{wholeTower, counts, wholeSkipList}
+use Rattle.blockfile.specs.Put.{Parts, Shared, newColumn, newColumns, tableAfter, countsOn, lastAt, relink}
 use Rattle.blockfile.specs.Remove.{without}
+use Rattle.blockfile.specs.Create.{newTable}
 use Rattle.laws.proofs.TowerLinks.{seatsOf, seated, linkSeats, seated-towers, map-from}
 use Rattle.laws.proofs.TableTowers.{head-after, seats-after, behind-after, tower-written, take-rest, behind-gone}
 use Rattle.entries.specs.Places.{IsPage}
 use Rattle.search.specs.Tables.{Reading}
-use Rattle.links.specs.Links.{linkWrites, Linkable, levelsBelow, towerAs}
+use Rattle.links.specs.Links.{linkWrites, Linkable, levelsBelow, towerAs, skipListAs}
 use Rattle.links.specs.Levels.{Before, After}
 use Rattle.links.proofs.Standing.{last-first, before-page}
 
@@ -92,3 +93,20 @@ pub gone-links : (t : Table) (k : ℕ) → suc k < length (columns t) → (h : �
 gone-links t k inside h before values few b v =
     links-relink (without t (suc k)) (suc k) h before values few (before-as k refl (ap towersOf (take-rest k (t .rest) (omega arith))) b)
     (λ l m. v .next l (omega arith) ∙ ap (λ (cs : List Column). nextAt l (towersOf cs)) (sym (behind-gone t k inside)))
+
+-- ---- The counts of a table
+
+pub counts-written : (t : Table) (img : List ℕ)
+    → apply (countsOn t ∷ []) img ≡ write img (t .root) 16 (word32 (length (entriesOf t)) ++ (word32 (length (columns t)) ++ word32 (length (towersOf (columns t)))))
+unfolding counts
+counts-written t img = refl
+
+-- ---- Create: the skip list and the head of a new table
+
+module _ (spanSize root span head : ℕ) where
+  pub new-skip-list : wholeSkipList (skipListOf (newTable spanSize root span head)) ≡ wholeSkipList (skipListAs root span head 0 1 1 spanSize)
+  new-skip-list = refl
+
+  pub new-head : (levels : List ℕ) → gather wholeTower (towersIn (newTable spanSize root span head)) ≡ wholeTower (towerAs head 12 0 span (levelsBelow levels 0))
+  unfolding wholeTower
+  new-head levels = refl
