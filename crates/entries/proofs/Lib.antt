@@ -1,5 +1,7 @@
 pub mod Rests
+pub mod Octets
 pub mod Places
 pub mod Orders
+pub mod Prefixes
 pub mod Keys
 pub mod Copies

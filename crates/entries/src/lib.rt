@@ -2,3 +2,4 @@
 pub mod copy;
 pub mod key;
 pub mod place;
+pub mod prefix;

@@ -114,7 +114,7 @@ module _ {rule : Rule} {img scr : List ℕ} {z p prev : ℕ} {low : List ℕ} {a
         let d : Answered img low sp (startOf ss) (claims scr (ownedBy (alone z prev sp ss))) a s = v .complete sp (startOf ss) (claims scr (ownedBy (alone z prev sp ss))) (chain-first c) in
         let last : d .last ≡ l = cc (d .is, e) in
         let there : LastIs img l (lastKey low (sp .entries)) = subst (λ (k : Last). LastIs img k (lastKey low (sp .entries))) last (d .key) in
-        let same : lastKey low (sp .entries) ≡ hi = key-one img (l .at) (l .length) (lastKey low (sp .entries)) hi there (told .key) in
+        let same : lastKey low (sp .entries) ≡ hi = key-one img (l .at) (l .length) (lastKey low (sp .entries)) hi (there .there) (told .key .there) in
         record {
           count = cc (d .is, e);
           chain = subst (λ (k : List ℕ). ChainFound rule img s z next p k ss t) same
@@ -157,7 +157,7 @@ module _ {rule : Rule} {img : List ℕ} {z : ℕ} {scr₀ : List ℕ} {p₀ prev
 
   counted : (r : Counted) (s : List ℕ) → FindsAt whole (RestFound rule img scr₀ z p₀ prev₀ (w .start .low) keys₀ 1) r s → RestCounted rule img scr₀ z p₀ prev₀ l₀ keys₀ r s
   counted r s f = record {
-    is = λ low k. subst (λ (x : List ℕ). FindsAt whole (RestFound rule img scr₀ z p₀ prev₀ x keys₀ 1) r s) (key-one img (l₀ .at) (l₀ .length) (w .start .low) low (w .start .key) k) f;
+    is = λ low k. subst (λ (x : List ℕ). FindsAt whole (RestFound rule img scr₀ z p₀ prev₀ x keys₀ 1) r s) (key-one img (l₀ .at) (l₀ .length) (w .start .low) low (w .start .key .there) (k .there)) f;
   }
 
   broken : (s : List ℕ) → ((a : Counts) (t : List ℕ) → RestFound rule img scr z p prev (w .here .low) keys spans a t → ⊥) → RestCounted rule img scr₀ z p₀ prev₀ l₀ keys₀ Broken s

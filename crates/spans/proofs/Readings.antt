@@ -63,7 +63,7 @@ module _ {img : List ℕ} {p more : ℕ} {l : Last} (r : ReadySpan img p more l)
     all-of : (a : Spanned) → SpanSays rule img p (r .conts) prev z (r .low) a → Reading rule img p prev z l a
     all-of a x = record {
       is = λ conts low c k.
-          subst (λ (y : List ℕ). SpanSays rule img p conts prev z y a) (key-one img (l .at) (l .length) (r .low) low (r .key) k)
+          subst (λ (y : List ℕ). SpanSays rule img p conts prev z y a) (key-one img (l .at) (l .length) (r .low) low (r .key .there) (k .there))
           (subst (λ (y : List ℕ). SpanSays rule img p y prev z (r .low) a)
           (conts-one img (r .conts) conts (r .pages .inside) (c .inside) (sym (r .pages .linked) ∙ c .linked) (r .pages .are) (c .are)) x);
     }

@@ -1,12 +1,12 @@
 -- The ways through `verify_entry` and `verify_entries`: one entry, and a run of entries.
-use Prim.Native.Nat.{ℕ, suc, _+_, _*_, _-_, _%_, _≤_, _<_}
+use Prim.Native.Nat.{ℕ, zero, suc, _+_, _*_, _-_, _%_, _≤_, _<_}
 use native.Mathlib.Omega.{arith}
 use native.Mathlib.Decide.{decLt}
 use mathlib.Core.Path.{_≡_, refl, ap, sym, _∙_, subst}
 use mathlib.Core.Logic.{by-cases}
 use mathlib.Core.Bool.{Bool, true, false, cond}
 use mathlib.Core.List.{List, [], _∷_}
-use lib.ListN.{length, drop, length-drop}
+use lib.ListN.{length, drop, getD, length-drop}
 use lib.Seq.{drop-drop}
 use lib.Dec.{T, ltb}
 use borrow.Author.Tests.{ltb-true, ltb-false}
@@ -17,16 +17,19 @@ use Rattle.entries.specs.declared.place.Sizes.{Sizes}
 use Rattle.entries.specs.declared.key.Order.{Order}
 use Rattle.entries.specs.declared.key.Order.the-variants.{Less}
 use Rattle.entries.specs.Places.{Rest, Enough, Moved, gap, Measured}
-use Rattle.entries.specs.Keys.{KeyAt, Key, Compared}
+use Rattle.entries.specs.Keys.{KeyAt, Key, Compared, Prefixed, PrefixMost}
 use Rattle.entries.proofs.Rests.{rest-one, rest-length}
 use Rattle.entries.proofs.Places.{gap-next, gap-here}
 use Rattle.entries.proofs.Orders.{less-below, below-less}
 use Rattle.entries.proofs.Keys.{key-one, key-length}
+use Rattle.entries.proofs.Prefixes.{prefix-above}
 use Rattle.spans.specs.declared.Rule.{Rule}
 use Rattle.spans.specs.declared.entry.Last.{Last}
 use Rattle.spans.specs.declared.entry.Entered.{Entered}
 use Rattle.spans.specs.declared.entry.Entered.the-variants.{Bad, Read}
-use Rattle.spans.specs.Entries.{fits, Met, IsAbove, Allowed, skip, keyLength, valueLength, keyOf, taken, Run, Ready, Ends, Entering}
+use Rattle.spans.specs.declared.entry.Skimmed.{Skimmed}
+use Rattle.spans.specs.declared.entry.Skimmed.the-variants.{Barred, Passed}
+use Rattle.spans.specs.Entries.{fits, Met, IsAbove, Allowed, skip, keyLength, valueLength, keyOf, taken, Run, Whole, Ready, Ended, Ends, Entering, Skims}
 
 -- length bytes are moved past what is left on the page where that is 1 to 3 bytes
 pub skip-cases : (s : List ℕ) {X : Type 0} → (length s % 1016 < 4 → skip s ≡ length s % 1016 → X) → (4 ≤ length s % 1016 → skip s ≡ 0 → X) → X
@@ -56,10 +59,14 @@ some-below low (y ∷ k) h = omega arith
 
 module _ {img : List ℕ} {l : Last} {at : Place} {n : ℕ} {o : Order} (c : Compared img (l .at) (l .length) at n o) where
   pub is-above : o ≡ Less → IsAbove img l at n true
-  is-above e = record { is = λ low k u v. sym (so (bytesBelow low k) (less-below low k (sym (c .is low k u v) ∙ e))) }
+  is-above e = record { is = λ low k u v. sym (so (bytesBelow low k) (less-below low k (sym (c .is low k (u .there) v) ∙ e))) }
 
   pub not-above : (o ≡ Less → ⊥) → IsAbove img l at n false
-  not-above d = record { is = λ low k u v. sym (not-so (bytesBelow low k) (λ h. d (c .is low k u v ∙ below-less low k h))) }
+  not-above d = record { is = λ low k u v. sym (not-so (bytesBelow low k) (λ h. d (c .is low k (u .there) v ∙ below-less low k h))) }
+
+pub prefix-is-above : {img : List ℕ} (bytes : (i : ℕ) → getD img i 0 < 256) {l : Last} {at : Place} {n p : ℕ} → 0 < n → Prefixed img at n p → l .prefix < p → IsAbove img l at n true
+prefix-is-above bytes some e h =
+    record { is = λ low k u v. sym (so (bytesBelow low k) (less-below low k (prefix-above bytes some e low k v (omega (arith, u .most))))) }
 
 -- ---- one entry
 
@@ -68,7 +75,7 @@ module _ {img : List ℕ} {at : Place} {left : ℕ} {l : Last} (r : Ready img at
   all-of : {rule : Rule} (n : ℕ) (a : Entered) → Ends rule img (r .bytes) (r .low) n a → Entering rule img at l n a
   all-of {rule} n a e = record {
     is = λ s low u v.
-        subst (λ (k : List ℕ). Ends rule img s k n a) (key-one img (l .at) (l .length) (r .low) low (r .key) v)
+        subst (λ (k : List ℕ). Ends rule img s k n a) (key-one img (l .at) (l .length) (r .low) low (r .key .there) (v .there))
         (subst (λ (b : List ℕ). Ends rule img b (r .low) n a) (rest-one img at (r .bytes) (r .rest) s u) e);
   }
 
@@ -110,6 +117,9 @@ module _ {img : List ℕ} {at : Place} {left : ℕ} {l : Last} (r : Ready img at
         pub entry-forward : Enough img (z .after) (z .key + z .value)
         entry-forward = record { bytes = drop (skip (r .bytes) + 4) (r .bytes); rest = there; long = rw length-drop (omega (arith, g-is, r .long)) }
 
+        pub entry-empty : {rule : Rule} → z .key ≡ 0 → Entering rule img at l 1 Bad
+        entry-empty e = all-of 1 Bad (λ t hi x. omega (arith, some-below (r .low) (keyOf (r .bytes)) (x .1 .0), key-length entry-key))
+
         module _ {a : Bool} (c : IsAbove img l (z .after) (z .key) a) where
           a-is : a ≡ bytesBelow (r .low) (keyOf (r .bytes))
           a-is = c .is (r .low) (keyOf (r .bytes)) (r .key) entry-key
@@ -131,77 +141,125 @@ module _ {img : List ℕ} {at : Place} {left : ℕ} {l : Last} (r : Ready img at
               pub entry-barred : b ≡ false → Entering rule img at l 1 Bad
               entry-barred e = all-of 1 Bad (λ t hi x. subst T (sym b-is ∙ e) (x .1 .1))
 
-              pub entry-done : b ≡ true → {p : Place} → Moved img (z .after) (z .key + z .value) p
-                  → Entering rule img at l 1 (Read p (left - g - 4 - (z .key + z .value)) (record { at = z .after; length = z .key }))
+              pub entry-done : b ≡ true → {p : Place} → Moved img (z .after) (z .key + z .value) p → {q : ℕ} → PrefixMost img (z .after) (z .key) q
+                  → {rest : ℕ} → rest ≡ left - g - 4 - (z .key + z .value) → Entering rule img at l 1 (Read p rest (record { at = z .after; length = z .key; prefix = q }))
               unfolding taken
-              entry-done ok {p} v =
+              entry-done ok {p} v {q} most {rest} e =
                   let sum : taken (r .bytes) ≡ skip (r .bytes) + 4 + (z .key + z .value) = omega (arith, k-is, v-is) in
-                  all-of 1 (Read p (left - g - 4 - (z .key + z .value)) (record { at = z .after; length = z .key })) (record {
+                  all-of 1 (Read p rest (record { at = z .after; length = z .key; prefix = q })) (record {
                     bytes = drop (taken (r .bytes)) (r .bytes);
                     hi = keyOf (r .bytes);
                     run = (omega (arith, sum, g-is, r .long), (below, subst T (sym ok ∙ b-is) tt), (refl, refl));
                     rest = rw (sum, ← drop-drop (z .key + z .value) (skip (r .bytes) + 4) (r .bytes)) (v .to (drop (skip (r .bytes) + 4) (r .bytes)) there);
                     long = rw length-drop (omega (arith, sum, g-is, r .long));
-                    key = entry-key;
+                    key = record { there = entry-key; most = most .most (keyOf (r .bytes)) entry-key };
                   })
 
--- ---- a walk over `size` entries, i of which have been read
+-- an entry that lies on one page: nothing is passed over, and it is within what is left
+pub record Within (at : Place) (left : ℕ) (z : Sizes) : Type 0 where
+  pub none : 0 ≡ gap (at .offset) 4
+  pub room : 0 + 4 ≤ left
+  pub inside : z .key + z .value ≤ left - 0 - 4
 
-pub record Walking (rule : Rule) (img : List ℕ) (from : Place) (last : Last) (size : ℕ) (at : Place) (left : ℕ) (l : Last) (i : ℕ) : Type 0 where
+pub within : {img : List ℕ} {at : Place} {left : ℕ} {l : Last} {z : Sizes} → Ready img at left l → Whole at z → Within at left z
+within {img} {at} {left} r w =
+    let long : left ≡ 1024 - at .offset + 1016 * length (r .rest .more) = r .long ∙ rest-length img at (r .bytes) (r .rest) in
+    record { none = sym (gap-here (at .offset) 4 (omega (arith, w .eight))); room = omega (arith, w .eight); inside = omega (arith, w .all) }
+
+pub whole-enough : {img : List ℕ} {at : Place} {left : ℕ} {l : Last} → Ready img at left l → at .offset + 12 ≤ 1024 → Enough img at (gap (at .offset) 4 + 4)
+whole-enough {img} {at} r h =
+    record {
+      bytes = r .bytes;
+      rest = r .rest;
+      long = omega (arith, gap-here (at .offset) 4 (omega arith), rest-length img at (r .bytes) (r .rest));
+    }
+
+pub whole-after : {img : List ℕ} {at : Place} {left : ℕ} {l : Last} {z : Sizes} → Ready img at left l → Measured img at z → Whole at z → z .after .offset + 8 ≤ 1024
+whole-after {img} {at} {left} {l} {z} r m w =
+    let n : ℕ = gap (at .offset) 4 + 4 in
+    let t : Rest img (z .after) (drop n (r .bytes)) = m .moved .to (r .bytes) (r .rest) in
+    omega (arith, gap-here (at .offset) 4 (omega (arith, w .eight)), w .eight, r .rest .low, t .low, t .high, rest-length img at (r .bytes) (r .rest), rest-length img (z .after) (drop n (r .bytes)) t, length-drop n (r .bytes))
+
+-- ---- runs one after another
+
+module _ (rule : Rule) where
+  run-join : (n m : ℕ) (s low t hi u top : List ℕ) → Run rule s low n t hi → Run rule t hi m u top → Run rule s low (n + m) u top
+  run-join zero m s low t hi u top x y =
+      let e : 0 + m ≡ m = omega arith in
+      rw (e, x .0, x .1) y
+  run-join (suc n) m s low t hi u top x y =
+      let e : suc n + m ≡ suc (n + m) = omega arith in
+      rw e (x .0, x .1, run-join n m (drop (taken s) s) (keyOf s) t hi u top (x .2) y)
+
+  run-split : (n m : ℕ) (s low t hi u top : List ℕ) → Run rule s low n t hi → Run rule s low (n + m) u top → Run rule t hi m u top
+  run-split zero m s low t hi u top x y =
+      let e : 0 + m ≡ m = omega arith in
+      rw (← x .0, ← x .1) (rw e at y)
+  run-split (suc n) m s low t hi u top x y =
+      let e : suc n + m ≡ suc (n + m) = omega arith in
+      run-split n m (drop (taken s) s) (keyOf s) t hi u top (x .2) ((rw e at y) .2)
+
+  run-head : (n m : ℕ) (s low u top : List ℕ) → Run rule s low (n + m) u top → ((t hi : List ℕ) → Run rule s low n t hi → ⊥) → ⊥
+  run-head zero m s low u top y f = f s low (refl, refl)
+  run-head (suc n) m s low u top y f =
+      let e : suc n + m ≡ suc (n + m) = omega arith in
+      let z = rw e at y in
+      run-head n m (drop (taken s) s) (keyOf s) u top (z .2) (λ t hi x. f t hi (z .0, z .1, x))
+
+-- ---- a walk: i entries from the start on have been read
+
+pub record Walking (rule : Rule) (img : List ℕ) (from : Place) (last : Last) (at : Place) (left : ℕ) (l : Last) (i : ℕ) : Type 0 where
   pub all : ℕ
   pub start : Ready img from all last
-  pub here : Ready img at left l
-  pub few : i ≤ size
-  pub to : (t hi : List ℕ) → Run rule (here .bytes) (here .low) (size - i) t hi → Run rule (start .bytes) (start .low) size t hi
-  pub back : (t hi : List ℕ) → Run rule (start .bytes) (start .low) size t hi → Run rule (here .bytes) (here .low) (size - i) t hi
+  pub read : Ended rule img (start .bytes) (start .low) i at left l
 
-pub walking-start : (rule : Rule) {img : List ℕ} {at : Place} {left : ℕ} (size : ℕ) {l : Last} → Ready img at left l → Walking rule img at l size at left l 0
-walking-start rule {left = left} size r =
-    let none : size - 0 ≡ size = omega arith in
-    record { all = left; start = r; here = r; few = omega arith; to = λ t hi x. rw none at x; back = λ t hi x. rw none x }
+pub walking-start : (rule : Rule) {img : List ℕ} {at : Place} {left : ℕ} {l : Last} → Ready img at left l → Walking rule img at l at left l 0
+walking-start rule {left = left} r =
+    record { all = left; start = r; read = record { bytes = r .bytes; hi = r .low; run = (refl, refl); rest = r .rest; long = r .long; key = r .key } }
 
-module _ {rule : Rule} {img : List ℕ} {from : Place} {last : Last} {size : ℕ} {at : Place} {left : ℕ} {l : Last} {i : ℕ} (w : Walking rule img from last size at left l i) where
-  pub walking-end : size ≤ i → Entering rule img from last size (Read at left l)
-  walking-end h =
-      let none : size - i ≡ 0 = omega arith in
-      all-of (w .start) size (Read at left l) (record {
-        bytes = w .here .bytes;
-        hi = w .here .low;
-        run = w .to (w .here .bytes) (w .here .low) (rw none (refl, refl));
-        rest = w .here .rest;
-        long = w .here .long;
-        key = w .here .key;
-      })
+module _ {rule : Rule} {img : List ℕ} {from : Place} {last : Last} {at : Place} {left : ℕ} {l : Last} {i : ℕ} (w : Walking rule img from last at left l i) where
+  pub walking-ready : Ready img at left l
+  walking-ready = record { bytes = w .read .bytes; rest = w .read .rest; long = w .read .long; low = w .read .hi; key = w .read .key }
 
-  module _ (h : i < size) where
-    one : size - i ≡ suc (size - (i + 1))
-    one = omega arith
+  pub walking-end : {n : ℕ} → i ≡ n → Entering rule img from last n (Read at left l)
+  walking-end {n} e = rw (← e) (all-of (w .start) i (Read at left l) (w .read))
 
-    first : (t hi : List ℕ) → Run rule (w .start .bytes) (w .start .low) size t hi → Run rule (w .here .bytes) (w .here .low) (suc (size - (i + 1))) t hi
-    first t hi x = rw one at (w .back t hi x)
-
-    pub walking-no : {a : Entered} → Entering rule img at l 1 a → a ≡ Bad → Entering rule img from last size Bad
-    walking-no e is =
+  module _ {n : ℕ} {a : Entered} (e : Entering rule img at l n a) where
+    pub walking-no : a ≡ Bad → {size : ℕ} → i + n ≤ size → Entering rule img from last size Bad
+    walking-no is {size} few =
+        let s : List ℕ = w .start .bytes in
+        let low : List ℕ = w .start .low in
+        let all : size ≡ i + (n + (size - i - n)) = omega arith in
         all-of (w .start) size Bad (λ t hi x.
-        let y = first t hi x in
-        subst (Entering rule img at l 1) is e .is (w .here .bytes) (w .here .low) (w .here .rest) (w .here .key) _ _ (y .0, y .1, (refl, refl)))
+        run-head rule n (size - i - n) (w .read .bytes) (w .read .hi) t hi
+        (run-split rule i (n + (size - i - n)) s low (w .read .bytes) (w .read .hi) t hi (w .read .run) (rw all at x))
+        (subst (Entering rule img at l n) is e .is (w .read .bytes) (w .read .hi) (w .read .rest) (w .read .key)))
 
-    pub walking-next : {a : Entered} → Entering rule img at l 1 a → {p : Place} {rest : ℕ} {k : Last} → a ≡ Read p rest k → Walking rule img from last size p rest k (i + 1)
-    walking-next e is =
-        let d = subst (Entering rule img at l 1) is e .is (w .here .bytes) (w .here .low) (w .here .rest) (w .here .key) in
-        let after : List ℕ = drop (taken (w .here .bytes)) (w .here .bytes) in
-        record {
+    pub walking-more : {p : Place} {rest : ℕ} {k : Last} → a ≡ Read p rest k → {j : ℕ} → j ≡ i + n → Walking rule img from last p rest k j
+    walking-more is {j} sum =
+        let d = subst (Entering rule img at l n) is e .is (w .read .bytes) (w .read .hi) (w .read .rest) (w .read .key) in
+        rw sum (record {
           all = w .all;
           start = w .start;
-          here = record { bytes = d .bytes; rest = d .rest; long = d .long; low = d .hi; key = d .key };
-          few = omega arith;
-          to = λ t hi x. w .to t hi (rw one (
-            d .run .0,
-            d .run .1,
-            subst (λ (u : List ℕ). Run rule after u (size - (i + 1)) t hi) (sym (d .run .2 .1))
-                (subst (λ (u : List ℕ). Run rule u (d .hi) (size - (i + 1)) t hi) (sym (d .run .2 .0)) x),
-          ));
-          back = λ t hi x.
-              subst (λ (u : List ℕ). Run rule (d .bytes) u (size - (i + 1)) t hi) (d .run .2 .1)
-              (subst (λ (u : List ℕ). Run rule u (keyOf (w .here .bytes)) (size - (i + 1)) t hi) (d .run .2 .0) (first t hi x .2));
-        }
+          read = record {
+            bytes = d .bytes;
+            hi = d .hi;
+            run = run-join rule i n (w .start .bytes) (w .start .low) (w .read .bytes) (w .read .hi) (d .bytes) (d .hi) (w .read .run) (d .run);
+            rest = d .rest;
+            long = d .long;
+            key = d .key;
+          };
+        })
+
+-- ---- entries of one page, and then the walk on
+
+module _ {rule : Rule} {img : List ℕ} {at : Place} {l : Last} {n : ℕ} {a : Skimmed} (s : Skims rule img at l n a) where
+  pub skims-no : a ≡ Barred → Entering rule img at l n Bad
+  skims-no is = subst (Skims rule img at l n) is s .is
+
+  pub skims-most : {m : ℕ} {p : Place} {left : ℕ} {k : Last} → a ≡ Passed m p left k → m ≤ n
+  skims-most is = subst (Skims rule img at l n) is s .is .0
+
+  pub skims-more : {m : ℕ} {p : Place} {left : ℕ} {k : Last} → a ≡ Passed m p left k → {from : Place} {last : Last} {rest i : ℕ} → Walking rule img from last at rest l i
+      → Walking rule img from last p left k (i + m)
+  skims-more is w = walking-more w (subst (Skims rule img at l n) is s .is .1) refl refl

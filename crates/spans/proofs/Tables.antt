@@ -18,12 +18,13 @@ use Rattle.spans.specs.declared.Counted.the-variants.{Broken}
 use Rattle.spans.specs.Spans.{entriesIn, Counts, whole, SpansFound}
 use Rattle.spans.specs.Entries.{LastIs, Met}
 use Rattle.spans.specs.Parts.{Verified, VerifiedAll, ChainFound, RestFound, RestCounted}
+use Rattle.entries.proofs.Prefixes.{lead-none}
 use Rattle.spans.proofs.Sorts.{above-rising, rising-all, fits-key, fits-value, sized-most, every-fits}
 use Rattle.spans.proofs.Chains.{Fine, chain-join, chain-not, told, hi, onward, Fell, fell}
 
 -- no last key: a key of no bytes, wherever
 pub none-met : (img : List ℕ) (l : Last) → l .length ≡ 0 → LastIs img l []
-none-met img l e = record { bytes = []; rest = λ h. absurd (omega arith); long = omega arith; is = rw e }
+none-met img l e = record { there = record { bytes = []; rest = λ h. absurd (omega arith); long = omega arith; is = rw e }; most = omega (arith, lead-none 8) }
 
 -- ---- a chain from above no key on is a table's spans
 

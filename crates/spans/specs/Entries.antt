@@ -9,12 +9,15 @@ use Rattle.blockfile.specs.Bytes.{be16}
 use Rattle.blockfile.specs.Layout.{Entry}
 use Rattle.blockfile.specs.Order.{bytesBelow}
 use Rattle.entries.specs.declared.place.Place.{Place}
+use Rattle.entries.specs.declared.place.Sizes.{Sizes}
 use Rattle.entries.specs.Places.{Rest}
-use Rattle.entries.specs.Keys.{KeyAt}
+use Rattle.entries.specs.Keys.{KeyAt, lead}
 use Rattle.spans.specs.declared.Rule.{Rule}
 use Rattle.spans.specs.declared.entry.Last.{Last}
 use Rattle.spans.specs.declared.entry.Entered.{Entered}
 use Rattle.spans.specs.declared.entry.Entered.the-variants.{Bad, Read}
+use Rattle.spans.specs.declared.entry.Skimmed.{Skimmed}
+use Rattle.spans.specs.declared.entry.Skimmed.the-variants.{Barred, Passed}
 use Rattle.spans.specs.Spans.{ruleOf, sized}
 
 -- a key may stand in the table, with a value of v bytes
@@ -26,8 +29,9 @@ pub record Allowed (rule : Rule) (img : List ℕ) (at : Place) (n v : ℕ) (r : 
   pub is : (k : List ℕ) → KeyAt img at n k → r ≡ fits rule k v
 
 -- k is the last key met
-abbrev pub LastIs : (img : List ℕ) → Last → (k : List ℕ) → Type 0
-LastIs img l k = KeyAt img (l .at) (l .length) k
+pub record LastIs (img : List ℕ) (l : Last) (k : List ℕ) : Type 0 where
+  pub there : KeyAt img (l .at) (l .length) k
+  pub most : lead 8 k ≤ l .prefix
 
 -- there is a last key
 pub record Met (img : List ℕ) (l : Last) : Type 0 where
@@ -75,6 +79,11 @@ Run rule s low (suc n) t hi =
 
 -- ---- The walk
 
+-- an entry of these lengths lies on one page, and so do eight bytes from the start of its key on
+pub record Whole (at : Place) (z : Sizes) : Type 0 where
+  pub eight : at .offset + 12 ≤ 1024
+  pub all : at .offset + 4 + (z .key + z .value) ≤ 1024
+
 -- what is left, and the last key
 pub record Ready (img : List ℕ) (at : Place) (left : ℕ) (l : Last) : Type 0 where
   pub bytes : List ℕ
@@ -98,3 +107,11 @@ Ends rule img s low n (Read at left l) = Ended rule img s low n at left l
 -- the answer for n entries that follow the place, whatever stands there
 pub record Entering (rule : Rule) (img : List ℕ) (at : Place) (l : Last) (n : ℕ) (r : Entered) : Type 0 where
   pub is : (s low : List ℕ) → Rest img at s → LastIs img l low → Ends rule img s low n r
+
+-- the answer for entries of one page, at most n
+abbrev pub Passes : Rule → (img : List ℕ) (at : Place) (l : Last) (n : ℕ) → Skimmed → Type 0
+Passes rule img at l n Barred = Entering rule img at l n Bad
+Passes rule img at l n (Passed m p left k) = (m ≤ n) × Entering rule img at l m (Read p left k)
+
+pub record Skims (rule : Rule) (img : List ℕ) (at : Place) (l : Last) (n : ℕ) (r : Skimmed) : Type 0 where
+  pub is : Passes rule img at l n r

@@ -82,7 +82,11 @@ pub fn verify_spans(
     ensures { λ r. ⌜ FindsAt whole (SpansFound rule (now (image .entry)) (now (scratch .entry)) most start) r (now (scratch .exit)) ⌝ }
 {
     let at = Place { page: 0, offset: 0 };
-    let none = Last { at, length: 0 };
+    let none = Last {
+        at,
+        length: 0,
+        prefix: 0,
+    };
     let Spanned::Right(n, next, key) = verify_span(image, scratch, start, 0, most, none, rule)
     else {
         return Counted::Broken;

@@ -1,5 +1,5 @@
 -- The tables that the metaindex names, found one after another.
-use Prim.Native.Nat.{ℕ, zero, suc, _+_, _*_, _-_, _/_, _%_, _≤_, _<_}
+use Prim.Native.Nat.{ℕ, suc, _+_, _*_, _-_, _/_, _%_, _≤_, _<_}
 use native.Mathlib.Omega.{arith}
 use mathlib.Core.Path.{_≡_, refl, ap, ap₂, sym, _∙_, subst}
 use mathlib.Core.Bool.{Bool}
@@ -25,7 +25,8 @@ use Rattle.walks.specs.Found.{Open, claims, zeros, Found, FindsAt}
 use Rattle.walks.proofs.Founds.{SameAt, same-start, same-turn, finds-none, finds-done, done-injective, refused-never, found-none, found-join, found-first, found-second, zeros-claims, length-claims}
 use Rattle.entries.specs.declared.place.Place.{Place}
 use Rattle.entries.specs.declared.place.Sizes.{Sizes}
-use Rattle.entries.specs.Places.{IsPage, Enough, Moved, gap, Measured, Numbered, streamOf}
+use Rattle.entries.specs.Places.{IsPage, Enough, Moved, gap, Measured, Numbered}
+use Rattle.entries.proofs.Octets.{Byte, bytes-at, bytes-take, bytes-rest}
 use Rattle.search.specs.Spans.{Borne, BytesAt, Along, EntryAt}
 use Rattle.search.proofs.Entries.{bytes-enough, bytes-length, along-enough, along-entry, borne-along}
 use Rattle.spans.specs.declared.Rule.the-variants.{Keys}
@@ -34,9 +35,6 @@ use Rattle.towers.proofs.Heads.{span-few}
 use Rattle.verify.specs.Tables.{TableFound, listing, keysOf, TablesFound, NamesOn, MetaOn}
 
 -- ---- Four bytes and their number
-
-abbrev Byte : ℕ → Type 0
-Byte x = x < 256
 
 digits : (a b c d : ℕ) → Byte a → Byte b → Byte c → Byte d → word32 ((a * 256 + b) * 65536 + (c * 256 + d)) ≡ a ∷ b ∷ c ∷ d ∷ []
 unfolding word32
@@ -57,40 +55,10 @@ word-of (a ∷ (b ∷ (c ∷ []))) e h = absurd (omega arith)
 word-of (a ∷ (b ∷ (c ∷ (d ∷ [])))) e h = digits a b c d (h .0) (h .1 .0) (h .1 .1 .0) (h .1 .1 .1 .0)
 word-of (a ∷ (b ∷ (c ∷ (d ∷ (x ∷ v))))) e h = absurd (omega arith)
 
--- ---- The bytes of an image are bytes, and so are those from a place on
-
-bytes-all : (s : List ℕ) → ((i : ℕ) → getD s i 0 < 256) → Every Byte s
-bytes-all [] h = tt
-bytes-all (x ∷ s) h = (h 0, bytes-all s (λ i. h (suc i)))
-
-bytes-at : (s : List ℕ) → Every Byte s → (i : ℕ) → getD s i 0 < 256
-bytes-at [] h i = omega arith
-bytes-at (x ∷ s) h zero = h .0
-bytes-at (x ∷ s) h (suc i) = bytes-at s (h .1) i
-
-bytes-take : (n : ℕ) (s : List ℕ) → Every Byte s → Every Byte (take n s)
-bytes-take n s h = every-left Byte (take n s) (drop n s) (subst (Every Byte) (sym (take-append-drop n s)) h)
-
-bytes-drop : (n : ℕ) (s : List ℕ) → Every Byte s → Every Byte (drop n s)
-bytes-drop n s h = every-right Byte (take n s) (drop n s) (subst (Every Byte) (sym (take-append-drop n s)) h)
-
-bytes-page : (img : List ℕ) (n : ℕ) → Every Byte img → Every Byte (pg img n)
-unfolding pg
-bytes-page img zero h = tt
-bytes-page img (suc k) h = bytes-take 1024 (drop (1024 * k) img) (bytes-drop (1024 * k) img h)
-
-bytes-stream : (img ps : List ℕ) → Every Byte img → Every Byte (streamOf img ps)
-bytes-stream img [] h = tt
-bytes-stream img (p ∷ ps) h = every-join Byte (drop 8 (pg img p)) (streamOf img ps) (bytes-drop 8 (pg img p) (bytes-page img p h)) (bytes-stream img ps h)
-
 -- a value of four bytes is its number's
 module _ (img : List ℕ) (bytes : (i : ℕ) → getD img i 0 < 256) (p : Place) (n : ℕ) (v : List ℕ) (b : BytesAt img p n v) (four : length v ≡ 4) (r : ℕ) (is : Numbered img p r) where
   all : Every Byte v
-  all =
-      let w : Every Byte img = bytes-all img bytes in
-      subst (Every Byte) (sym (b .is)) (bytes-take n (b .bytes)
-      (subst (Every Byte) (sym (b .rest .is)) (every-join Byte (drop (p .offset) (pg img (p .page))) (streamOf img (b .rest .more))
-      (bytes-drop (p .offset) (pg img (p .page)) (bytes-page img (p .page) w)) (bytes-stream img (b .rest .more) w))))
+  all = subst (Every Byte) (sym (b .is)) (bytes-take n (b .bytes) (bytes-rest img bytes p (b .bytes) (b .rest)))
 
   number-of : r ≡ be32 v 0
   number-of =

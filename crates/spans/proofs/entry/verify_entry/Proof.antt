@@ -1,5 +1,6 @@
 -- `spans::entry::verify_entry` meets its contract: each way out has its law.
 use native.Mathlib.Omega.{arith}
+use mathlib.Core.Path.{refl}
 use borrow.Author.Needs.{needs}
 use borrow.Author.Tests.{not-true, not-false}
 use Rattle.entries.proofs.Places.{gap-most}
@@ -52,12 +53,20 @@ forward-requires c κs =
     let d = e .before .before .before in
     entry-forward (d .before .before .before .pre) (d .before .gap .ensures) (e .before .before .lengths .ensures) (d .if1 .left) (e .if2 .left)
 
-returns-5 : tie.Need-returns-5
-returns-5 c =
+prefix-most-requires : tie.Need-prefix-most-requires
+prefix-most-requires c κs =
     let e = c .before .before .before .before .before in
     let d = e .before .before .before in
-    entry-done (d .before .before .before .pre) (d .before .gap .ensures) (e .before .before .lengths .ensures) (d .if1 .left) (e .if2 .left) (c .before .before .before .before .above .ensures) (not-false _ (c .before .before .before .if3 .left)) (c .before .before .allowed .ensures)
-    (not-false _ (c .before .if4 .left)) (c .forward .ensures)
+    let some = entry-some (d .before .before .before .pre) (d .before .gap .ensures) (e .before .before .lengths .ensures) (d .if1 .left) (e .if2 .left) (c .before .before .before .before .above .ensures) (not-false _ (c .before .before .before .if3 .left)) in
+    (entry-keys (d .before .before .before .pre) (d .before .gap .ensures) (e .before .before .lengths .ensures) (d .if1 .left) (e .if2 .left) .1, some)
+
+returns-5 : tie.Need-returns-5
+returns-5 c =
+    let f = c .before in
+    let e = f .before .before .before .before .before in
+    let d = e .before .before .before in
+    entry-done (d .before .before .before .pre) (d .before .gap .ensures) (e .before .before .lengths .ensures) (d .if1 .left) (e .if2 .left) (f .before .before .before .before .above .ensures) (not-false _ (f .before .before .before .if3 .left)) (f .before .before .allowed .ensures)
+    (not-false _ (f .before .if4 .left)) (f .forward .ensures) (c .prefix-most .ensures) refl
 
 pub verify-entry-spec : {M : Type 1} → statement M
 verify-entry-spec =
@@ -76,6 +85,7 @@ verify-entry-spec =
     allowed-requires
     returns-4
     forward-requires
+    prefix-most-requires
     (λ c. search needs)
     (λ c. search needs)
     (λ c. search needs)
