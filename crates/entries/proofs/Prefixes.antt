@@ -89,23 +89,23 @@ no-lead : (k : List ℕ) → lead 0 k ≡ 0
 unfolding lead
 no-lead k = refl
 
-lead-eight : (s : List ℕ) → be32 s 0 * 4294967296 + be32 s 4 ≡ lead 8 s
+lead-eight : (s : List ℕ) → be32 s 4 + be32 s 0 * 4294967296 ≡ lead 8 s
 unfolding be32 be16
 lead-eight s =
     omega (arith, lead-at 7 0 s, lead-at 6 1 s, lead-at 5 2 s, lead-at 4 3 s, lead-at 3 4 s, lead-at 2 5 s, lead-at 1 6 s, lead-at 0 7 s, no-lead (drop 8 s))
 
 module _ {img : List ℕ} (bytes : (i : ℕ) → getD img i 0 < 256) {at : Place} {n a b : ℕ} (some : 1 ≤ n) (room : at .offset + 8 ≤ 1024)
     (first : a ≡ be32 (pg img (at .page)) (at .offset)) (second : b ≡ be32 (pg img (at .page)) (at .offset + 4)) where
-  whole : (s : List ℕ) → Rest img at s → a * 4294967296 + b ≡ lead 8 s
+  whole : (s : List ℕ) → Rest img at s → b + a * 4294967296 ≡ lead 8 s
   whole s r =
       let e : be32 s 0 ≡ a = rest-32 img at s r 0 (omega arith) ∙ ap (be32 (pg img (at .page))) (add-zero (at .offset)) ∙ sym first in
       let f : be32 s 4 ≡ b = rest-32 img at s r 4 room ∙ sym second in
       rw (← e, ← f) (lead-eight s)
 
-  pub prefix-whole : 8 ≤ n → Prefixed img at n (a * 4294967296 + b)
+  pub prefix-whole : 8 ≤ n → Prefixed img at n (b + a * 4294967296)
   prefix-whole h = record { is = λ k q. whole (q .bytes) (q .rest some) ∙ sym (ap (lead 8) (q .is) ∙ lead-take 8 n (q .bytes) h) }
 
-  pub prefix-cut : n < 8 → Prefixed img at n ((a * 4294967296 + b) / 2 ^ (64 - 8 * n) * 2 ^ (64 - 8 * n) % 2 ^ 64)
+  pub prefix-cut : n < 8 → Prefixed img at n ((b + a * 4294967296) / 2 ^ (64 - 8 * n) * 2 ^ (64 - 8 * n) % 2 ^ 64)
   prefix-cut h =
       record {
         is = λ k q.

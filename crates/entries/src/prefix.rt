@@ -11,7 +11,7 @@ pub fn prefix(image: &[u8], at: Place, n: usize) -> usize
 {
     let page = at.page;
     let offset = at.offset;
-    let whole = get32(image, page, offset) * 4294967296 + get32(image, page, offset + 4);
+    let whole = get32(image, page, offset + 4) + get32(image, page, offset) * 4294967296;
     if n < 8 {
         let behind = 64 - 8 * n;
         return whole >> behind << behind;

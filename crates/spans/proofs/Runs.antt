@@ -27,9 +27,9 @@ use Rattle.spans.specs.declared.Rule.{Rule}
 use Rattle.spans.specs.declared.entry.Last.{Last}
 use Rattle.spans.specs.declared.entry.Entered.{Entered}
 use Rattle.spans.specs.declared.entry.Entered.the-variants.{Bad, Read}
-use Rattle.spans.specs.declared.entry.Skimmed.{Skimmed}
-use Rattle.spans.specs.declared.entry.Skimmed.the-variants.{Barred, Passed}
-use Rattle.spans.specs.Entries.{fits, Met, IsAbove, Allowed, skip, keyLength, valueLength, keyOf, taken, Run, Whole, Ready, Ended, Ends, Entering, Skims}
+use Rattle.spans.specs.declared.entry.Tried.{Tried}
+use Rattle.spans.specs.declared.entry.Tried.the-variants.{Left, On}
+use Rattle.spans.specs.Entries.{fits, Met, IsAbove, Allowed, skip, keyLength, valueLength, keyOf, taken, Run, Whole, Ready, Ended, Ends, Entering, Tries}
 
 -- length bytes are moved past what is left on the page where that is 1 to 3 bytes
 pub skip-cases : (s : List ℕ) {X : Type 0} → (length s % 1016 < 4 → skip s ≡ length s % 1016 → X) → (4 ≤ length s % 1016 → skip s ≡ 0 → X) → X
@@ -116,9 +116,6 @@ module _ {img : List ℕ} {at : Place} {left : ℕ} {l : Last} (r : Ready img at
 
         pub entry-forward : Enough img (z .after) (z .key + z .value)
         entry-forward = record { bytes = drop (skip (r .bytes) + 4) (r .bytes); rest = there; long = rw length-drop (omega (arith, g-is, r .long)) }
-
-        pub entry-empty : {rule : Rule} → z .key ≡ 0 → Entering rule img at l 1 Bad
-        entry-empty e = all-of 1 Bad (λ t hi x. omega (arith, some-below (r .low) (keyOf (r .bytes)) (x .1 .0), key-length entry-key))
 
         module _ {a : Bool} (c : IsAbove img l (z .after) (z .key) a) where
           a-is : a ≡ bytesBelow (r .low) (keyOf (r .bytes))
@@ -251,15 +248,11 @@ module _ {rule : Rule} {img : List ℕ} {from : Place} {last : Last} {at : Place
           };
         })
 
--- ---- entries of one page, and then the walk on
+-- ---- an entry that was tried
 
-module _ {rule : Rule} {img : List ℕ} {at : Place} {l : Last} {n : ℕ} {a : Skimmed} (s : Skims rule img at l n a) where
-  pub skims-no : a ≡ Barred → Entering rule img at l n Bad
-  skims-no is = subst (Skims rule img at l n) is s .is
+module _ {rule : Rule} {img : List ℕ} {at : Place} {l : Last} where
+  pub tried-left : Tries rule img at l Left
+  tried-left = record { is = tt }
 
-  pub skims-most : {m : ℕ} {p : Place} {left : ℕ} {k : Last} → a ≡ Passed m p left k → m ≤ n
-  skims-most is = subst (Skims rule img at l n) is s .is .0
-
-  pub skims-more : {m : ℕ} {p : Place} {left : ℕ} {k : Last} → a ≡ Passed m p left k → {from : Place} {last : Last} {rest i : ℕ} → Walking rule img from last at rest l i
-      → Walking rule img from last p left k (i + m)
-  skims-more is w = walking-more w (subst (Skims rule img at l n) is s .is .1) refl refl
+  pub tried-on : {a : Tried} → Tries rule img at l a → {p : Place} {left : ℕ} {k : Last} → a ≡ On p left k → Entering rule img at l 1 (Read p left k)
+  tried-on e is = subst (Tries rule img at l) is e .is

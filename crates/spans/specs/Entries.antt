@@ -17,7 +17,8 @@ use Rattle.spans.specs.declared.entry.Last.{Last}
 use Rattle.spans.specs.declared.entry.Entered.{Entered}
 use Rattle.spans.specs.declared.entry.Entered.the-variants.{Bad, Read}
 use Rattle.spans.specs.declared.entry.Skimmed.{Skimmed}
-use Rattle.spans.specs.declared.entry.Skimmed.the-variants.{Barred, Passed}
+use Rattle.spans.specs.declared.entry.Tried.{Tried}
+use Rattle.spans.specs.declared.entry.Tried.the-variants.{Left, On}
 use Rattle.spans.specs.Spans.{ruleOf, sized}
 
 -- a key may stand in the table, with a value of v bytes
@@ -108,10 +109,15 @@ Ends rule img s low n (Read at left l) = Ended rule img s low n at left l
 pub record Entering (rule : Rule) (img : List ℕ) (at : Place) (l : Last) (n : ℕ) (r : Entered) : Type 0 where
   pub is : (s low : List ℕ) → Rest img at s → LastIs img l low → Ends rule img s low n r
 
--- the answer for entries of one page, at most n
-abbrev pub Passes : Rule → (img : List ℕ) (at : Place) (l : Last) (n : ℕ) → Skimmed → Type 0
-Passes rule img at l n Barred = Entering rule img at l n Bad
-Passes rule img at l n (Passed m p left k) = (m ≤ n) × Entering rule img at l m (Read p left k)
+-- an entry that was tried: nothing is said of one that was left
+abbrev pub Trying : Rule → (img : List ℕ) (at : Place) (l : Last) → Tried → Type 0
+Trying rule img at l Left = Unit {0}
+Trying rule img at l (On p left k) = Entering rule img at l 1 (Read p left k)
 
+pub record Tries (rule : Rule) (img : List ℕ) (at : Place) (l : Last) (r : Tried) : Type 0 where
+  pub is : Trying rule img at l r
+
+-- some of n entries were read
 pub record Skims (rule : Rule) (img : List ℕ) (at : Place) (l : Last) (n : ℕ) (r : Skimmed) : Type 0 where
-  pub is : Passes rule img at l n r
+  pub few : r .count ≤ n
+  pub read : Entering rule img at l (r .count) (Read (r .at) (r .left) (r .last))

@@ -1,8 +1,8 @@
 // The entries of a span: lengths that fit, keys that rise, keys and values as the table's rule has them.
 ghost use Prim.Native.Nat.{_≤_};
-ghost use Rattle.entries.specs.Keys.{Key, Prefixed};
+ghost use Rattle.entries.specs.Keys.{Key};
 ghost use Rattle.entries.specs.Places.{Measured};
-ghost use Rattle.spans.specs.Entries.{Met, IsAbove, Allowed, Whole, Ready, Entering, Skims};
+ghost use Rattle.spans.specs.Entries.{Met, IsAbove, Allowed, Whole, Ready, Entering, Tries, Skims};
 use crate::Rule;
 use entries::key::Order;
 use entries::key::compare_keys;
@@ -28,10 +28,18 @@ pub enum Entered {
     Read(Place, usize, Last),
 }
 
-// Entries of one page that were read: refused, or as many as were met, and then as above.
-pub enum Skimmed {
-    Barred,
-    Passed(usize, Place, usize, Last),
+// An entry that was tried: not read, or as above.
+pub enum Tried {
+    Left,
+    On(Place, usize, Last),
+}
+
+// Entries that were read: their number, the place after them, the bytes left from there on, and the last key.
+pub struct Skimmed {
+    pub count: usize,
+    pub at: Place,
+    pub left: usize,
+    pub last: Last,
 }
 
 // Whether a key may stand in the table, with a value of that length.
@@ -66,17 +74,6 @@ fn above(image: &[u8], last: Last, at: Place, key: usize) -> bool
         Order::Equal => false,
         Order::Greater => false,
     }
-}
-
-// Whether a key with this prefix is above the last key met. Only where the prefix does not tell are the keys compared.
-fn prefix_above(image: &[u8], last: Last, at: Place, key: usize, prefix: usize) -> bool
-    requires { ⌜ Met (now image) last × Key (now image) at key × (1 ≤ key) × Prefixed (now image) at key prefix ⌝ }
-    ensures { λ r. ⌜ IsAbove (now (image .entry)) last at key r ⌝ }
-{
-    if last.prefix < prefix {
-        return true;
-    }
-    above(image, last, at, key)
 }
 
 // Reads the entry that follows; `left` bytes are left up to the end of the span's pages.
@@ -116,34 +113,28 @@ fn verify_entry(image: &[u8], at: Place, left: usize, last: Last, rule: Rule) ->
     )
 }
 
-// Reads the entry that follows, of these lengths, where it lies on one page with eight bytes from the start of its key on.
-fn verify_whole(
-    image: &[u8],
-    at: Place,
-    left: usize,
-    sizes: Sizes,
-    last: Last,
-    rule: Rule,
-) -> Entered
+// Reads the entry that follows, of these lengths, which lies on one page with eight bytes from the start of its key on: if its
+// prefix is above the last key's, and else leaves it.
+fn try_entry(image: &[u8], at: Place, left: usize, sizes: Sizes, last: Last, rule: Rule) -> Tried
     requires { ⌜ Ready (now image) at left last × Measured (now image) at sizes × Whole at sizes ⌝ }
-    ensures { λ r. ⌜ Entering rule (now (image .entry)) at last 1 r ⌝ }
+    ensures { λ r. ⌜ Tries rule (now (image .entry)) at last r ⌝ }
 {
     let start = sizes.after;
     let key = sizes.key;
     let value = sizes.value;
     let both = key + value;
     if key == 0 {
-        return Entered::Bad;
+        return Tried::Left;
     }
     let prefix = prefix(image, start, key);
-    if !prefix_above(image, last, start, key, prefix) {
-        return Entered::Bad;
+    if prefix <= last.prefix {
+        return Tried::Left;
     }
     if !allowed(image, start, key, value, rule) {
-        return Entered::Bad;
+        return Tried::Left;
     }
     let after = forward(image, start, both);
-    Entered::Read(
+    Tried::On(
         after,
         left - 4 - both,
         Last {
@@ -154,7 +145,7 @@ fn verify_whole(
     )
 }
 
-// Reads entries, at most `size` of them, up to one that does not lie on the page whole.
+// Reads entries, at most `size` of them, up to one that does not lie on the page whole or whose prefix does not tell its order.
 fn skim(image: &[u8], at: Place, left: usize, size: usize, last: Last, rule: Rule) -> Skimmed
     requires { ⌜ Ready (now image) at left last ⌝ }
     ensures { λ r. ⌜ Skims rule (now (image .entry)) at last size r ⌝ }
@@ -166,21 +157,26 @@ fn skim(image: &[u8], at: Place, left: usize, size: usize, last: Last, rule: Rul
     while i < size {
         let offset = here.offset;
         if 1012 < offset {
-            return Skimmed::Passed(i, here, rest, key);
+            break;
         }
         let sizes = lengths(image, here);
         if 1020 - offset < sizes.key + sizes.value {
-            return Skimmed::Passed(i, here, rest, key);
+            break;
         }
-        let Entered::Read(p, l, k) = verify_whole(image, here, rest, sizes, key, rule) else {
-            return Skimmed::Barred;
+        let Tried::On(p, l, k) = try_entry(image, here, rest, sizes, key, rule) else {
+            break;
         };
         here = p;
         rest = l;
         key = k;
         i += 1;
     }
-    Skimmed::Passed(i, here, rest, key)
+    Skimmed {
+        count: i,
+        at: here,
+        left: rest,
+        last: key,
+    }
 }
 
 // Reads `size` entries.
@@ -200,13 +196,14 @@ pub fn verify_entries(
     let mut key = last;
     let mut i = 0;
     while i < size {
-        let Skimmed::Passed(n, p, l, k) = skim(image, here, rest, size - i, key, rule) else {
-            return Entered::Bad;
-        };
+        let s = skim(image, here, rest, size - i, key, rule);
+        let n = s.count;
+        let p = s.at;
+        let k = s.last;
         if size - i <= n {
-            return Entered::Read(p, l, k);
+            return Entered::Read(p, s.left, k);
         }
-        let Entered::Read(q, m, h) = verify_entry(image, p, l, k, rule) else {
+        let Entered::Read(q, m, h) = verify_entry(image, p, s.left, k, rule) else {
             return Entered::Bad;
         };
         here = q;

@@ -21,22 +21,22 @@ returns : tie.Need-returns
 returns c =
     let k = c .before .before .before .shared-slice-known in
     let p = c .before .before .before .before .pre in
-    prefix-cut (λ i. omega (arith, k .given i)) (p .1) (p .2) (c .before .before .get32 .ensures .is) (c .before .get322 .ensures .is) (c .if1 .taken)
+    prefix-cut (λ i. omega (arith, k .given i)) (p .1) (p .2) (c .before .get322 .ensures .is) (c .before .before .get32 .ensures .is) (c .if1 .taken)
 
 returns-2 : tie.Need-returns-2
 returns-2 c =
     let k = c .before .before .before .shared-slice-known in
     let p = c .before .before .before .before .pre in
-    prefix-whole (λ i. omega (arith, k .given i)) (p .1) (p .2) (c .before .before .get32 .ensures .is) (c .before .get322 .ensures .is) (c .if1 .left)
+    prefix-whole (λ i. omega (arith, k .given i)) (p .1) (p .2) (c .before .get322 .ensures .is) (c .before .before .get32 .ensures .is) (c .if1 .left)
 
 pub prefix-spec : {M : Type 1} → statement M
 prefix-spec =
     tie.close
     (tie.spec
+    (λ c. search needs)
     get32-requires
-    (λ c. search needs)
-    (λ c. search needs)
     get32-requires-2
+    (λ c. search needs)
     (λ c. search needs)
     (λ c. search needs)
     (λ c. search needs)
