@@ -1,21 +1,24 @@
 -- Keys at places: a key is one list, on one page it is a part of the image, and over page breaks it is read byte by byte.
 use Prim.Native.Nat.{ℕ, zero, suc, _+_, _*_, _-_, _≤_, _<_}
 use native.Mathlib.Omega.{arith}
+use native.Mathlib.Decide.{decLt}
 use native.Mathlib.Numerals.{add-one}
 use mathlib.Core.Path.{_≡_, refl, ap, sym, _∙_}
+use mathlib.Core.Logic.{by-cases}
 use mathlib.Core.Bool.{Bool, true, false}
 use mathlib.Core.List.{List, [], _∷_}
 use lib.ListN.{length, take, drop, getD, length-drop}
-use lib.Seq.{drop-cons, length-take-le}
+use lib.Seq.{drop-at, drop-cons, length-take-le, take-add, take-take}
 use Rattle.blockfile.specs.Order.{allWithin}
 use Rattle.entries.specs.declared.key.Order.{Order}
 use Rattle.entries.specs.declared.key.Order.the-variants.{Less, Equal, Greater}
 use Rattle.entries.specs.declared.place.Place.{Place}
 use Rattle.entries.specs.declared.place.Got.{Got}
-use Rattle.entries.specs.Places.{IsPage, Rest, Enough, Stepped}
-use Rattle.entries.specs.Keys.{KeyAt, Key, order, Compared, ComparedTo, Printed, Near, KeyBytes}
-use Rattle.entries.proofs.Rests.{rest-one, rest-take}
-use Rattle.entries.proofs.Orders.{order-less, order-greater, order-on, order-none, order-shorter, order-longer, within-low, within-high, within-on}
+use Rattle.entries.specs.Places.{IsPage, Rest, Enough, Settled, Stepped}
+use Rattle.entries.specs.Keys.{KeyAt, Key, order, Compared, ComparedTo, Printed, Least, Together, Near, KeyBytes}
+use Rattle.entries.proofs.Rests.{rest-one, rest-take, rest-in}
+use Rattle.entries.proofs.Places.{gap-one}
+use Rattle.entries.proofs.Orders.{order-less, order-greater, order-on, order-none, order-shorter, order-longer, order-part, order-behind, within-low, within-high, within-on}
 
 module _ {img : List ℕ} {at : Place} {n : ℕ} {k : List ℕ} (a : KeyAt img at n k) where
   pub key-length : length k ≡ n
@@ -62,6 +65,28 @@ key-step img at (suc n) k a z g t =
       key = rw one (record { bytes = drop 1 (a .bytes); rest = λ h. t .moved .to (a .bytes) r; long = rw length-drop (omega (arith, a .long)); is = refl });
     }
 
+-- a key from where its first byte is on the page, its first w bytes, and those behind them
+
+key-settled : {img : List ℕ} {x u : Place} {i : ℕ} {k : List ℕ} → KeyAt img x i k → (i ≡ 0 → ⊥) → Settled img x 1 u → KeyAt img u i k
+key-settled {img} {x} a z s =
+    let r : Rest img x (a .bytes) = a .rest (omega (arith, z)) in
+    record { bytes = a .bytes; rest = λ h. rw (gap-one (x .offset) (r .high)) at (s .moved .to (a .bytes) r); long = a .long; is = a .is }
+
+key-first : {img : List ℕ} {u : Place} {i : ℕ} {k : List ℕ} → KeyAt img u i k → (w : ℕ) → w ≤ i → KeyAt img u w (take w k)
+key-first {i = i} a w h = record { bytes = a .bytes; rest = λ f. a .rest (omega arith); long = omega (arith, a .long); is = ap (take w) (a .is) ∙ take-take w i (a .bytes) h }
+
+key-behind : {img : List ℕ} {u : Place} {i : ℕ} {k : List ℕ} → KeyAt img u i k → (w : ℕ) → w ≤ i → u .offset + w ≤ 1024
+    → KeyAt img (record { page = u .page; offset = u .offset + w }) (i - w) (drop w k)
+key-behind {img} {u} {i} a w h f =
+    let sum : i ≡ w + (i - w) = omega arith in
+    record {
+      bytes = drop w (a .bytes);
+      rest = λ g. rest-in img u (a .bytes) (a .rest (omega arith)) w f;
+      long = rw length-drop (omega (arith, a .long));
+      is = ap (drop w) (a .is ∙ ap (λ (n : ℕ). take n (a .bytes)) sum ∙ take-add w (i - w) (a .bytes))
+          ∙ drop-at (take w (a .bytes)) (take (i - w) (drop w (a .bytes))) w (length-take-le w (a .bytes) (omega (arith, a .long)));
+    }
+
 -- ---- keys whose bytes are at hand
 
 pub key-bytes : {img : List ℕ} {at : Place} {n : ℕ} (i : ℕ) → i ≡ 1024 * (at .page - 1) + at .offset → 0 < n → at .offset + n ≤ 1024 → KeyBytes img at n (take (i + n - i) (drop i img))
@@ -77,7 +102,10 @@ module _ {img : List ℕ} {a : Place} {m : ℕ} (x : List ℕ) (u : KeyBytes img
   pub printed-bytes : (r : Bool) → r ≡ allWithin 0x21 0x7e x → Printed img a m r
   printed-bytes r e = record { is = λ k p. e ∙ ap (allWithin 0x21 0x7e) (u .are k p) }
 
--- ---- two keys byte by byte: i and j bytes of them are left from x and y on
+pub least-some : {m n r : ℕ} → Least m n r → 1 ≤ m → 1 ≤ n → 1 ≤ r
+least-some {m} {n} l a b = by-cases (decLt n m) (λ h. omega (arith, l .other (omega arith))) (λ h. omega (arith, l .whole (omega arith)))
+
+-- ---- two keys page part by page part: i and j bytes of them are left from x and y on
 
 pub record Comparing (img : List ℕ) (a : Place) (m : ℕ) (b : Place) (n : ℕ) (x : Place) (i : ℕ) (y : Place) (j : ℕ) : Type 0 where
   pub first : List ℕ
@@ -111,36 +139,46 @@ module _ {img : List ℕ} {a : Place} {m : ℕ} {b : Place} {n : ℕ} {x : Place
     pub comparing-first : Enough img x 1
     comparing-first = key-enough (c .kThere) z
 
-    module _ (w : j ≡ 0 → ⊥) where
+    module _ (q : j ≡ 0 → ⊥) where
       pub comparing-second : Enough img y 1
-      comparing-second = key-enough (c .lThere) w
+      comparing-second = key-enough (c .lThere) q
 
-      module _ (g h : Got) (s : Stepped img x g) (t : Stepped img y h) where
-        u : Headed img i (c .k) g
-        u = key-step img x i (c .k) (c .kThere) z g s
+      module _ {u v : Place} (s : Settled img x 1 u) (t : Settled img y 1 v) {w : ℕ} (g : Together (u .offset) i (v .offset) j w) where
+        kSettled : KeyAt img u i (c .k)
+        kSettled = key-settled (c .kThere) z s
 
-        v : Headed img j (c .l) h
-        v = key-step img y j (c .l) (c .lThere) w h t
+        lSettled : KeyAt img v j (c .l)
+        lSettled = key-settled (c .lThere) q t
 
-        pub compared-less : g .byte < h .byte → Compared img a m b n Less
-        compared-less e = compared Less (order-less _ _ _ _ _ _ (u .is) (v .is) e)
+        pub comparing-parts : Key img u w × Key img v w
+        comparing-parts =
+            (record { key = take w (c .k); there = key-first kSettled w (g .first) }, record { key = take w (c .l); there = key-first lSettled w (g .second) })
 
-        module _ (most : h .byte ≤ g .byte) where
-          pub compared-greater : h .byte < g .byte → Compared img a m b n Greater
-          compared-greater e = compared Greater (order-greater _ _ _ _ _ _ (u .is) (v .is) e)
+        module _ {r : Order} (p : Compared img u w v w r) where
+          parts : r ≡ order (take w (c .k)) (take w (c .l))
+          parts = p .is (take w (c .k)) (take w (c .l)) (key-first kSettled w (g .first)) (key-first lSettled w (g .second))
 
-          pub comparing-next : g .byte ≤ h .byte → Comparing img a m b n (g .after) (i - 1) (h .after) (j - 1)
+          kLong : w ≤ length (c .k)
+          kLong = omega (arith, key-length (c .kThere), g .first)
+
+          lLong : w ≤ length (c .l)
+          lLong = omega (arith, key-length (c .lThere), g .second)
+
+          pub compared-part : {o : Order} → r ≡ o → (o ≡ Equal → ⊥) → Compared img a m b n o
+          compared-part {o} is d = compared o (order-part w (c .k) (c .l) kLong lLong (λ e. d (sym is ∙ parts ∙ e)) ∙ sym parts ∙ is)
+
+          pub comparing-next : r ≡ Equal → Comparing img a m b n (record { page = u .page; offset = u .offset + w }) (i - w) (record { page = v .page; offset = v .offset + w }) (j - w)
           comparing-next e =
               record {
                 first = c .first;
                 second = c .second;
                 firstThere = c .firstThere;
                 secondThere = c .secondThere;
-                k = u .tail;
-                l = v .tail;
-                kThere = u .key;
-                lThere = v .key;
-                same = sym (order-on _ _ _ _ _ _ (u .is) (v .is) (omega arith)) ∙ c .same;
+                k = drop w (c .k);
+                l = drop w (c .l);
+                kThere = key-behind kSettled w (g .first) (g .here);
+                lThere = key-behind lSettled w (g .second) (g .there);
+                same = order-behind w (c .k) (c .l) kLong lLong (sym parts ∙ e) ∙ c .same;
               }
 
 -- ---- a key and a list byte by byte: i bytes of the key are left from x on, the list is at j

@@ -1,11 +1,13 @@
 -- The order of keys as an answer: it is the text's, and it goes by the first bytes that differ.
-use Prim.Native.Nat.{ℕ, _+_, _≤_, _<_}
+use Prim.Native.Nat.{ℕ, zero, suc, _+_, _≤_, _<_}
 use native.Mathlib.Omega.{arith}
+use native.Mathlib.Decide.{decLt}
 use native.Mathlib.Numerals.{add-one}
 use mathlib.Core.Path.{_≡_, refl, sym, _∙_, subst}
+use mathlib.Core.Logic.{by-cases}
 use mathlib.Core.Bool.{Bool, true, false, cond}
 use mathlib.Core.List.{List, [], _∷_}
-use lib.ListN.{length, drop, getD, length-drop, drop-of-length-le}
+use lib.ListN.{length, take, drop, getD, length-drop, drop-of-length-le}
 use lib.Seq.{drop-cons}
 use lib.Dec.{T}
 use borrow.Author.Tests.{lt-ltb, le-ltb, eq-eqb, ne-eqb, le-leb, lt-leb}
@@ -82,6 +84,33 @@ unfolding order
 order-longer [] l e f = absurd (omega arith)
 order-longer (x ∷ k) [] e f = refl
 order-longer (x ∷ k) (y ∷ l) e f = absurd (omega arith)
+
+-- ---- by the first w bytes: where they differ they have the order, and else what follows has it
+
+pub order-part : (w : ℕ) (k l : List ℕ) → w ≤ length k → w ≤ length l → (order (take w k) (take w l) ≡ Equal → ⊥) → order k l ≡ order (take w k) (take w l)
+order-part zero k l f g d = absurd (d (order-none [] [] refl refl))
+order-part (suc w) [] l f g d = absurd (omega arith)
+order-part (suc w) (x ∷ k) [] f g d = absurd (omega arith)
+order-part (suc w) (x ∷ k) (y ∷ l) f g d =
+    by-cases (decLt x y) (λ h. order-less _ _ x y k l refl refl h ∙ sym (order-less _ _ x y (take w k) (take w l) refl refl h))
+    (λ p.
+    by-cases (decLt y x) (λ h. order-greater _ _ x y k l refl refl h ∙ sym (order-greater _ _ x y (take w k) (take w l) refl refl h))
+    (λ q.
+    let e : x ≡ y = omega arith in
+    let s : order (x ∷ take w k) (y ∷ take w l) ≡ order (take w k) (take w l) = order-on _ _ x y (take w k) (take w l) refl refl e in
+    order-on _ _ x y k l refl refl e ∙ order-part w k l (omega arith) (omega arith) (λ h. d (s ∙ h)) ∙ sym s))
+
+pub order-behind : (w : ℕ) (k l : List ℕ) → w ≤ length k → w ≤ length l → order (take w k) (take w l) ≡ Equal → order (drop w k) (drop w l) ≡ order k l
+order-behind zero k l f g e = refl
+order-behind (suc w) [] l f g e = absurd (omega arith)
+order-behind (suc w) (x ∷ k) [] f g e = absurd (omega arith)
+order-behind (suc w) (x ∷ k) (y ∷ l) f g e =
+    by-cases (decLt x y) (λ h. absurd (let z : Less ≡ Equal = sym (order-less _ _ x y (take w k) (take w l) refl refl h) ∙ e in let n : _≡_ {A = ℕ} 0 1 = cc in omega arith))
+    (λ p.
+    by-cases (decLt y x) (λ h. absurd (let z : Greater ≡ Equal = sym (order-greater _ _ x y (take w k) (take w l) refl refl h) ∙ e in let n : _≡_ {A = ℕ} 0 1 = cc in omega arith))
+    (λ q.
+    let is : x ≡ y = omega arith in
+    order-behind w k l (omega arith) (omega arith) (sym (order-on _ _ x y (take w k) (take w l) refl refl is) ∙ e) ∙ sym (order-on _ _ x y k l refl refl is)))
 
 -- ---- two lists whose first i bytes are the same
 

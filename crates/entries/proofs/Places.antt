@@ -28,7 +28,7 @@ pub gap-most : (o n : ℕ) → gap o n ≤ 1024
 gap-most o n = by-cases (decLt 1024 (o + n)) (λ h. omega (arith, gap-next o n h)) (λ h. let k : o + n ≤ 1024 = omega arith in omega (arith, gap-here o n k))
 
 -- a byte lies on one page wherever it is
-gap-one : (o : ℕ) → o ≤ 1024 → gap o 1 ≡ 0
+pub gap-one : (o : ℕ) → o ≤ 1024 → gap o 1 ≡ 0
 gap-one o h = by-cases (decLt 1024 (o + 1)) (λ l. omega (arith, gap-next o 1 l)) (λ l. gap-here o 1 (omega arith))
 
 -- ---- settle

@@ -42,6 +42,14 @@ pub record Least (m n r : ℕ) : Type 0 where
   pub whole : m ≤ n → m ≤ r
   pub other : n ≤ m → n ≤ r
 
+-- r bytes, at least one, of m and of n bytes that start at offsets a and b of pages, lie on these pages
+pub record Together (a m b n r : ℕ) : Type 0 where
+  pub some : 1 ≤ r
+  pub first : r ≤ m
+  pub second : r ≤ n
+  pub here : a + r ≤ 1024
+  pub there : b + r ≤ 1024
+
 -- the offset of a key that is not empty is on its page
 pub record Near (at : Place) (n : ℕ) : Type 0 where
   pub high : 0 < n → at .offset ≤ 1024

@@ -1,10 +1,11 @@
 // Keys on the pages of a span: their order, and whether they are names. A key that lies on one page is a part of the image and
-// is read in a plain loop; any other is read byte by byte over the page breaks.
+// is read in a plain loop; any other is read over the page breaks.
 ghost use mathlib.Core.Path.{_≡_};
 ghost use Prim.Native.Nat.{_+_, _≤_, _<_};
 ghost use Rattle.blockfile.specs.Order.{allWithin};
-ghost use Rattle.entries.specs.Keys.{Key, order, Compared, ComparedTo, Printed, Least, Near, OnPage, KeyBytes};
+ghost use Rattle.entries.specs.Keys.{Key, order, Compared, ComparedTo, Printed, Least, Together, Near, OnPage, KeyBytes};
 use crate::place::Place;
+use crate::place::settle;
 use crate::place::step;
 
 // Which of two keys comes first: by unsigned bytes, a proper prefix first.
@@ -87,7 +88,25 @@ fn key_bytes(image: &[u8], at: Place, n: usize) -> &[u8]
     &image[from..end]
 }
 
-// The order of two keys, byte by byte over page breaks.
+// The order of two keys, each on one page.
+fn compare_here(image: &[u8], a: Place, m: usize, b: Place, n: usize) -> Order
+    requires { ⌜ Key (now image) a m × Key (now image) b n × (0 < m) × (0 < n) × (a .offset + m ≤ 1024) × (b .offset + n ≤ 1024) ⌝ }
+    ensures { λ r. ⌜ Compared (now (image .entry)) a m b n r ⌝ }
+{
+    compare_bytes(key_bytes(image, a, m), key_bytes(image, b, n))
+}
+
+// How many bytes of two keys, of which m and n are left, lie from these offsets on with no page break in either.
+fn together(a: usize, m: usize, b: usize, n: usize) -> usize
+    requires { ⌜ (1 ≤ m) × (1 ≤ n) × (a < 1024) × (b < 1024) ⌝ }
+    ensures { λ r. ⌜ Together a m b n r ⌝ }
+{
+    let here = least(m, 1024 - a);
+    let there = least(n, 1024 - b);
+    least(here, there)
+}
+
+// The order of two keys, page part by page part.
 fn compare_across(image: &[u8], a: Place, m: usize, b: Place, n: usize) -> Order
     requires { ⌜ Key (now image) a m × Key (now image) b n ⌝ }
     ensures { λ r. ⌜ Compared (now (image .entry)) a m b n r ⌝ }
@@ -100,20 +119,29 @@ fn compare_across(image: &[u8], a: Place, m: usize, b: Place, n: usize) -> Order
         if j == 0 {
             return Order::Greater;
         }
-        let c = step(image, x);
-        let d = step(image, y);
-        let first = c.byte;
-        let second = d.byte;
-        if first < second {
-            return Order::Less;
+        let u = settle(image, x, 1);
+        let v = settle(image, y, 1);
+        let w = together(u.offset, i, v.offset, j);
+        let order = compare_here(image, u, w, v, w);
+        match order {
+            Order::Less => {
+                return Order::Less;
+            }
+            Order::Greater => {
+                return Order::Greater;
+            }
+            Order::Equal => {}
         }
-        if second < first {
-            return Order::Greater;
-        }
-        x = c.after;
-        y = d.after;
-        i -= 1;
-        j -= 1;
+        x = Place {
+            page: u.page,
+            offset: u.offset + w,
+        };
+        y = Place {
+            page: v.page,
+            offset: v.offset + w,
+        };
+        i -= w;
+        j -= w;
     }
     if j == 0 { Order::Equal } else { Order::Less }
 }
@@ -125,7 +153,7 @@ pub fn compare_keys(image: &[u8], a: Place, m: usize, b: Place, n: usize) -> Ord
 {
     if on_page(a, m) {
         if on_page(b, n) {
-            return compare_bytes(key_bytes(image, a, m), key_bytes(image, b, n));
+            return compare_here(image, a, m, b, n);
         }
     }
     compare_across(image, a, m, b, n)

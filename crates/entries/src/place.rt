@@ -33,7 +33,7 @@ pub fn gap(offset: usize, n: usize) -> usize
 }
 
 // The first place from here on where n bytes lie on one page.
-fn settle(image: &[u8], at: Place, n: usize) -> Place
+pub fn settle(image: &[u8], at: Place, n: usize) -> Place
     requires { ⌜ (1 ≤ n) × (n ≤ 1016) × Enough (now image) at (gap (at .offset) n + n) ⌝ }
     ensures { λ r. ⌜ Settled (now (image .entry)) at n r ⌝ }
 {
