@@ -3,7 +3,7 @@ use Prim.Native.Nat.{ℕ, _+_, _*_, _-_, _/_, _≤_}
 use native.Mathlib.Omega.{arith}
 use native.Mathlib.Decide.{decLt}
 use native.Mathlib.Nat.{add-zero, add-assoc}
-use mathlib.Core.Path.{_≡_, refl, ap, sym, _∙_, subst}
+use mathlib.Core.Path.{_≡_, refl, ap, ap₂, sym, _∙_, subst}
 use mathlib.Core.Logic.{by-cases}
 use mathlib.Core.List.{List, _∷_, _++_}
 use lib.ListN.{length, take, drop, getD, length-drop}
@@ -98,25 +98,42 @@ module _ {img : List ℕ} {at : Place} {e : Entry} {es : List Entry} (a : Along 
     moved-on : (n : ℕ) (p : Place) → Moved img (g .after) n p → Rest img p (drop (lens + 4 + n) (a .stream))
     moved-on n p t = subst (Rest img p) (drop-drop n (lens + 4) (a .stream)) (t .to (drop (lens + 4) (a .stream)) from-key)
 
+    key-is : e .key ≡ take (g .key) (drop (lens + 4) (a .stream))
+    key-is = sym (a .are .2) ∙ slice-take (lens + 4) (length (e .key)) (a .stream) (omega (arith, within)) ∙ rw key-long
+
+    value-is : e .value ≡ take (g .value) (drop (lens + 4 + g .key) (a .stream))
+    unfolding entryEnd
+    value-is = sym (a .are .3) ∙ slice-take (lens + 4 + length (e .key)) (length (e .value)) (a .stream) (omega (arith, within)) ∙ rw (key-long, value-long)
+
+    -- the key and the value are one run of bytes
+    both-are : e .key ++ e .value ≡ take (g .key + g .value) (drop (lens + 4) (a .stream))
+    both-are =
+        ap₂ (λ (k v : List ℕ). k ++ v) key-is (value-is ∙ ap (take (g .value)) (sym (drop-drop (g .key) (lens + 4) (a .stream))))
+        ∙ sym (take-add (g .key) (g .value) (drop (lens + 4) (a .stream)))
+
+    both-long : g .key + g .value ≤ length (drop (lens + 4) (a .stream))
+    both-long = rw length-drop (omega (arith, within, key-long, value-long))
+
     pub along-entry : EntryAt img g e es
     unfolding entryEnd
     along-entry =
         record {
           keySmall = m .keyBelow;
           valueSmall = m .valueBelow;
-          enough = record { bytes = drop (lens + 4) (a .stream); rest = from-key; long = rw length-drop (omega (arith, within, key-long, value-long)) };
+          enough = record { bytes = drop (lens + 4) (a .stream); rest = from-key; long = both-long };
           key = record {
             bytes = drop (lens + 4) (a .stream);
             rest = from-key;
             long = rw length-drop (omega (arith, within, key-long));
-            is = sym (a .are .2) ∙ slice-take (lens + 4) (length (e .key)) (a .stream) (omega (arith, within)) ∙ rw key-long;
+            is = key-is;
           };
           value = λ p t. record {
             bytes = drop (lens + 4 + g .key) (a .stream);
             rest = moved-on (g .key) p t;
             long = rw length-drop (omega (arith, within, key-long, value-long));
-            is = sym (a .are .3) ∙ slice-take (lens + 4 + length (e .key)) (length (e .value)) (a .stream) (omega (arith, within)) ∙ rw (key-long, value-long);
+            is = value-is;
           };
+          both = record { bytes = drop (lens + 4) (a .stream); rest = from-key; long = both-long; is = both-are };
           next = λ p t.
               let sum : lens + 4 + (g .key + g .value) ≡ lens + 4 + length (e .key) + length (e .value) = omega (arith, key-long, value-long) in
               record {

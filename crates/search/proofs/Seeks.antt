@@ -3,7 +3,7 @@ use Prim.Native.Nat.{ℕ, _+_, _-_, _≤_}
 use native.Mathlib.Omega.{arith}
 use mathlib.Core.Path.{_≡_, refl, ap, sym, _∙_, subst}
 use mathlib.Core.Bool.{Bool, true, false, _||_}
-use mathlib.Core.List.{List, [], _∷_}
+use mathlib.Core.List.{List, [], _∷_, _++_, append-assoc}
 use mathlib.Core.Option.{Option, none, some}
 use lib.ListN.{length}
 use lib.Dec.{T}
@@ -11,7 +11,7 @@ use Rattle.blockfile.specs.Bytes.{pg, be16, Every}
 use Rattle.blockfile.specs.Layout.{Entry}
 use Rattle.blockfile.specs.Order.{KeyRule, bytesBelow, same, Rising, find, above}
 use Rattle.blockfile.proofs.Bools.{so, not-so, same-refl}
-use Rattle.blockfile.proofs.Every.{every-so}
+use Rattle.blockfile.proofs.Every.{every-so, every-join}
 use Rattle.laws.proofs.Orders.{Ordered}
 use Rattle.laws.proofs.Maps.{find-low}
 use Rattle.laws.proofs.Middle.{under-differs, under-not-over}
@@ -26,7 +26,7 @@ use Rattle.search.specs.declared.span.Sought.{Sought}
 use Rattle.search.specs.declared.span.Sought.the-variants.{Found, Missing}
 use Rattle.search.specs.declared.span.Stop.{Stop}
 use Rattle.search.specs.declared.span.Stop.the-variants.{Here, Above, End}
-use Rattle.search.specs.Spans.{Bytewise, SpanOn, BytesAt, Along, EntryThere, EntryAt, Answered, Met, Passed, Stopped, over, KeyOf}
+use Rattle.search.specs.Spans.{Bytewise, SpanOn, BytesAt, Along, EntryThere, EntryAt, Answered, Before, Met, Passed, Ended, Stopped, over, KeyOf}
 use Rattle.search.proofs.Rules.{bytewise-ordered, less-under, equal-is, greater-over}
 use Rattle.search.proofs.Entries.{bytes-key, along-entry, span-along}
 
@@ -49,24 +49,24 @@ stop-here : {img : List ℕ} {r : KeyRule} {k : List ℕ} {es : List Entry} {g :
 stop-here {img} {r} {k} {es} {g} {left} m =
     record {
       met = λ h n q. let x : g ≡ h = cc in let y : left ≡ n = cc in subst (λ (i : ℕ). Met img r k es h i) y (subst (λ (i : Sizes). Met img r k es i left) x m);
-      passed = λ h q. absurd (let z : _≡_ {A = ℕ} 0 1 = cc in omega arith);
+      passed = λ h n q. absurd (let z : _≡_ {A = ℕ} 0 1 = cc in omega arith);
       end = λ q. absurd (let z : _≡_ {A = ℕ} 0 1 = cc in omega arith);
     }
 
-stop-above : {img : List ℕ} {r : KeyRule} {k : List ℕ} {es : List Entry} {g : Sizes} → Passed img r k es g → Stopped img r k es (Above g)
-stop-above {img} {r} {k} {es} {g} m =
+stop-above : {img : List ℕ} {r : KeyRule} {k : List ℕ} {es : List Entry} {g : Sizes} {left : ℕ} → Passed img r k es g left → Stopped img r k es (Above g left)
+stop-above {img} {r} {k} {es} {g} {left} m =
     record {
       met = λ h n q. absurd (let z : _≡_ {A = ℕ} 0 1 = cc in omega arith);
-      passed = λ h q. let x : g ≡ h = cc in subst (λ (i : Sizes). Passed img r k es i) x m;
+      passed = λ h n q. let x : g ≡ h = cc in let y : left ≡ n = cc in subst (λ (i : ℕ). Passed img r k es h i) y (subst (λ (i : Sizes). Passed img r k es i left) x m);
       end = λ q. absurd (let z : _≡_ {A = ℕ} 0 1 = cc in omega arith);
     }
 
-stop-end : {img : List ℕ} {r : KeyRule} {k : List ℕ} {es : List Entry} → find k es ≡ none → above r k es ≡ none → Stopped img r k es End
-stop-end e f =
+stop-end : {img : List ℕ} {r : KeyRule} {k : List ℕ} {es : List Entry} → Ended r k es → Stopped img r k es End
+stop-end m =
     record {
       met = λ h n q. absurd (let z : _≡_ {A = ℕ} 0 1 = cc in omega arith);
-      passed = λ h q. absurd (let z : _≡_ {A = ℕ} 0 1 = cc in omega arith);
-      end = λ q. (e, f);
+      passed = λ h n q. absurd (let z : _≡_ {A = ℕ} 0 1 = cc in omega arith);
+      end = λ q. m;
     }
 
 -- ---- The first of rising entries against the key
@@ -142,12 +142,27 @@ module _ {img : List ℕ} {page : ℕ} (x : SpanOn img page) where
   span-inside o n h =
       subst (λ (p : ℕ). Inside img p o n) (x .at) (record { small = x .there .small; low = x .there .borne .1 .0 .low; high = x .there .borne .1 .0 .high; fits = h })
 
+-- ---- Entries passed over by the search
+
+module _ {r : KeyRule} {k : List ℕ} {es : List Entry} where
+  before-start : Before r k es es
+  before-start = record { passed = []; under = tt; all = refl }
+
+  before-next : {e : Entry} {more : List Entry} → T (r .below (e .key) k) → Before r k es (e ∷ more) → Before r k es more
+  before-next {e} {more} u b =
+      record {
+        passed = b .passed ++ e ∷ [];
+        under = every-join (λ (y : Entry). T (r .below (y .key) k)) (b .passed) (e ∷ []) (b .under) (u, tt);
+        all = b .all ∙ sym (append-assoc (b .passed) (e ∷ []) more);
+      }
+
 -- ---- seek: the entries from the place on are left, and find and above go on in them
 
 pub record Seeking (img : List ℕ) (r : KeyRule) (k : List ℕ) (es : List Entry) (at : Place) (left : ℕ) : Type 0 where
   pub rest : List Entry
   pub ahead : Ahead img r at rest
   pub count : left ≡ length rest
+  pub before : Before r k es rest
   pub same : find k es ≡ find k rest
   pub next : above r k es ≡ above r k rest
 
@@ -157,27 +172,29 @@ pub record Opened (img : List ℕ) (r : KeyRule) (k : List ℕ) (es : List Entry
   pub more : List Entry
   pub ahead : Ahead img r at (first ∷ more)
   pub count : left ≡ 1 + length more
+  pub before : Before r k es (first ∷ more)
   pub same : find k es ≡ find k (first ∷ more)
   pub next : above r k es ≡ above r k (first ∷ more)
 
 pub seeking-start : {img : List ℕ} {page : ℕ} (k : List ℕ) (left : ℕ) → left ≡ be16 (pg img page) 18 → (x : SpanOn img page)
     → Seeking img (x .rule) k (x .linked .span .entries) (record { page = page; offset = 20 }) left
-seeking-start k left e x = record { rest = x .linked .span .entries; ahead = span-ahead x; count = e ∙ span-size x; same = refl; next = refl }
+seeking-start k left e x = record { rest = x .linked .span .entries; ahead = span-ahead x; count = e ∙ span-size x; before = before-start; same = refl; next = refl }
 
 module _ {img : List ℕ} {r : KeyRule} {k : List ℕ} {es : List Entry} {at : Place} {left : ℕ} (s : Seeking img r k es at left) where
   pub seeking-end : left ≡ 0 → Stopped img r k es End
-  seeking-end z = go (s .rest) (s .count) (s .same) (s .next)
+  seeking-end z = go (s .rest) (s .count) (s .before) (s .same) (s .next)
     where
-      go : (rest : List Entry) → left ≡ length rest → find k es ≡ find k rest → above r k es ≡ above r k rest → Stopped img r k es End
-      go [] c f n = stop-end f n
-      go (e ∷ rest) c f n = absurd (omega arith)
+      go : (rest : List Entry) → left ≡ length rest → Before r k es rest → find k es ≡ find k rest → above r k es ≡ above r k rest → Stopped img r k es End
+      go [] c b f n = stop-end (record { before = b; found = f; next = n })
+      go (e ∷ rest) c b f n = absurd (omega arith)
 
   pub seeking-open : (left ≡ 0 → ⊥) → Opened img r k es at left
-  seeking-open z = go (s .rest) (s .ahead) (s .count) (s .same) (s .next)
+  seeking-open z = go (s .rest) (s .ahead) (s .count) (s .before) (s .same) (s .next)
     where
-      go : (rest : List Entry) → Ahead img r at rest → left ≡ length rest → find k es ≡ find k rest → above r k es ≡ above r k rest → Opened img r k es at left
-      go [] a c f n = absurd (z c)
-      go (e ∷ rest) a c f n = record { first = e; more = rest; ahead = a; count = omega arith; same = f; next = n }
+      go : (rest : List Entry) → Ahead img r at rest → left ≡ length rest → Before r k es rest → find k es ≡ find k rest → above r k es ≡ above r k rest
+          → Opened img r k es at left
+      go [] a c b f n = absurd (z c)
+      go (e ∷ rest) a c b f n = record { first = e; more = rest; ahead = a; count = omega arith; before = b; same = f; next = n }
 
 module _ {img : List ℕ} {r : KeyRule} {k : List ℕ} {es : List Entry} {at : Place} {left : ℕ} (s : Opened img r k es at left) (g : Sizes) (m : Measured img at g) where
   pub opened-entry : EntryAt img g (s .first) (s .more)
@@ -194,6 +211,7 @@ module _ {img : List ℕ} {r : KeyRule} {k : List ℕ} {es : List Entry} {at : P
           rest = s .more;
           ahead = record { along = opened-entry .next p t; keys = s .ahead .keys .1; rising = s .ahead .rising .1 };
           count = omega (arith, s .count);
+          before = before-next u (s .before);
           same = s .same ∙ find-on r w k (s .first) (s .more) u;
           next = s .next ∙ above-on r w k (s .first) (s .more) u;
         }
@@ -206,12 +224,14 @@ module _ {img : List ℕ} {r : KeyRule} {k : List ℕ} {es : List Entry} {at : P
           entry = s .first;
           more = s .more;
           at = opened-entry;
+          same = q;
+          before = s .before;
           count = s .count;
           found = s .same ∙ find-same r w k (s .first) (s .more) q (s .ahead .keys .0) (s .ahead .rising);
           next = s .next ∙ above-same r w k (s .first) (s .more) q (s .ahead .keys .0) (s .ahead .rising);
         })
 
-    pub seeking-above : a ≡ Greater → Stopped img r k es (Above g)
+    pub seeking-above : a ≡ Greater → Stopped img r k es (Above g left)
     seeking-above e =
         let v : T (r .below k (s .first .key)) = greater-over r w (s .first .key) k (sym compared ∙ e) in
         stop-above
@@ -219,6 +239,9 @@ module _ {img : List ℕ} {r : KeyRule} {k : List ℕ} {es : List Entry} {at : P
           entry = s .first;
           more = s .more;
           at = opened-entry;
+          over = v;
+          before = s .before;
+          count = s .count;
           found = s .same ∙ find-over r w k (s .first) (s .more) v (s .ahead .rising);
           next = s .next ∙ above-over r w k (s .first) (s .more) v (s .ahead .rising);
         })
@@ -229,17 +252,17 @@ module _ {img : List ℕ} {r : KeyRule} {k : List ℕ} {es : List Entry} {s : St
   pub found-here : (g : Sizes) (left : ℕ) → s ≡ Here g left → (p : Place) → Moved img (g .after) (g .key) p → Answered img (find k es) (Found p (g .value))
   found-here g left e p t = let m : Met img r k es g left = h .met g left e in answer-found (m .entry .value) (m .found) (m .at .value p t)
 
-  pub found-above : (g : Sizes) → s ≡ Above g → Answered img (find k es) Missing
-  found-above g e = answer-none (h .passed g e .found)
+  pub found-above : (g : Sizes) (left : ℕ) → s ≡ Above g left → Answered img (find k es) Missing
+  found-above g left e = answer-none (h .passed g left e .found)
 
   pub found-end : s ≡ End → Answered img (find k es) Missing
-  found-end e = answer-none (h .end e .0)
+  found-end e = answer-none (h .end e .found)
 
-  pub next-above : (g : Sizes) → s ≡ Above g → Answered img (above r k es) (Found (g .after) (g .key))
-  next-above g e = let m : Passed img r k es g = h .passed g e in answer-found (m .entry .key) (m .next) (m .at .key)
+  pub next-above : (g : Sizes) (left : ℕ) → s ≡ Above g left → Answered img (above r k es) (Found (g .after) (g .key))
+  next-above g left e = let m : Passed img r k es g left = h .passed g left e in answer-found (m .entry .key) (m .next) (m .at .key)
 
   pub next-end : s ≡ End → Answered img (above r k es) Missing
-  next-end e = answer-none (h .end e .1)
+  next-end e = answer-none (h .end e .next)
 
   module _ (g : Sizes) (left : ℕ) (e : s ≡ Here g left) where
     met : Met img r k es g left

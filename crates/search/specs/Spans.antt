@@ -2,7 +2,7 @@
 use Prim.Native.Nat.{ℕ, _+_, _*_, _≤_, _<_}
 use mathlib.Core.Path.{_≡_}
 use mathlib.Core.Bool.{Bool, false}
-use mathlib.Core.List.{List, [], _∷_}
+use mathlib.Core.List.{List, [], _∷_, _++_}
 use mathlib.Core.Option.{Option, none, some}
 use lib.ListN.{length, take, drop}
 use lib.Dec.{T}
@@ -78,6 +78,7 @@ pub record EntryAt (img : List ℕ) (g : Sizes) (e : Entry) (more : List Entry) 
   pub enough : Enough img (g .after) (g .key + g .value)
   pub key : BytesAt img (g .after) (g .key) (e .key)
   pub value : (p : Place) → Moved img (g .after) (g .key) p → BytesAt img p (g .value) (e .value)
+  pub both : BytesAt img (g .after) (g .key + g .value) (e .key ++ e .value)
   pub next : (p : Place) → Moved img (g .after) (g .key + g .value) p → Along img p more
 
 -- ---- Answers
@@ -87,28 +88,45 @@ pub record Answered (img : List ℕ) (o : Option (List ℕ)) (r : Sought) : Type
   pub found : (at : Place) (n : ℕ) → r ≡ Found at n → (v : List ℕ) × (o ≡ some v) × BytesAt img at n v
   pub missing : r ≡ Missing → o ≡ none
 
+-- es are entries with keys below k, and then the entries from the place of the search on
+pub record Before (r : KeyRule) (k : List ℕ) (es rest : List Entry) : Type 0 where
+  pub passed : List Entry
+  pub under : Every (λ e. T (r .below (e .key) k)) passed
+  pub all : es ≡ passed ++ rest
+
 -- the search for k in es stopped at the entry with that key; with it, `left` entries are left
 pub record Met (img : List ℕ) (r : KeyRule) (k : List ℕ) (es : List Entry) (g : Sizes) (left : ℕ) : Type 0 where
   pub entry : Entry
   pub more : List Entry
   pub at : EntryAt img g entry more
+  pub same : entry .key ≡ k
+  pub before : Before r k es (entry ∷ more)
   pub count : left ≡ 1 + length more
   pub found : find k es ≡ some (entry .value)
   pub next : above r k es ≡ above r [] more
 
--- it stopped at the first entry above the key, which is not there
-pub record Passed (img : List ℕ) (r : KeyRule) (k : List ℕ) (es : List Entry) (g : Sizes) : Type 0 where
+-- it stopped at the first entry above the key, which is not there; with it, `left` entries are left
+pub record Passed (img : List ℕ) (r : KeyRule) (k : List ℕ) (es : List Entry) (g : Sizes) (left : ℕ) : Type 0 where
   pub entry : Entry
   pub more : List Entry
   pub at : EntryAt img g entry more
+  pub over : T (r .below k (entry .key))
+  pub before : Before r k es (entry ∷ more)
+  pub count : left ≡ 1 + length more
   pub found : find k es ≡ none
   pub next : above r k es ≡ some (entry .key)
+
+-- it stopped behind the last entry
+pub record Ended (r : KeyRule) (k : List ℕ) (es : List Entry) : Type 0 where
+  pub before : Before r k es []
+  pub found : find k es ≡ none
+  pub next : above r k es ≡ none
 
 -- where the search for k in es stopped
 pub record Stopped (img : List ℕ) (r : KeyRule) (k : List ℕ) (es : List Entry) (s : Stop) : Type 0 where
   pub met : (g : Sizes) (left : ℕ) → s ≡ Here g left → Met img r k es g left
-  pub passed : (g : Sizes) → s ≡ Above g → Passed img r k es g
-  pub end : s ≡ End → (find k es ≡ none) × (above r k es ≡ none)
+  pub passed : (g : Sizes) (left : ℕ) → s ≡ Above g left → Passed img r k es g left
+  pub end : s ≡ End → Ended r k es
 
 -- the entries begin above the key
 abbrev pub over : KeyRule → (key : List ℕ) → List Entry → Bool

@@ -18,14 +18,14 @@ pub enum Sought {
 pub enum Stop {
     // At the entry with the key; with it, so many entries are left.
     Here(Sizes, usize),
-    // At the first entry above the key.
-    Above(Sizes),
+    // At the first entry above the key; with it, so many entries are left.
+    Above(Sizes, usize),
     // Behind the last entry.
     End,
 }
 
 // Searches the entries of the span on the page for the key.
-fn seek(image: &[u8], page: usize, key: &[u8]) -> Stop
+pub fn seek(image: &[u8], page: usize, key: &[u8]) -> Stop
     requires { ⌜ SpanOn (now image) page ⌝ }
     ensures { λ r. ⌜ StoppedOn (now (image .entry)) page (now (key .entry)) r ⌝ }
 {
@@ -44,7 +44,7 @@ fn seek(image: &[u8], page: usize, key: &[u8]) -> Stop
                 return Stop::Here(g, left);
             }
             Order::Greater => {
-                return Stop::Above(g);
+                return Stop::Above(g, left);
             }
         }
     }
@@ -63,7 +63,7 @@ pub fn find_entry(image: &[u8], page: usize, key: &[u8]) -> Sought
             let value = forward(image, first, g.key);
             Sought::Found(value, g.value)
         }
-        Stop::Above(_) => Sought::Missing,
+        Stop::Above(_, _) => Sought::Missing,
         Stop::End => Sought::Missing,
     }
 }
@@ -93,7 +93,7 @@ pub fn key_above(image: &[u8], page: usize, key: &[u8]) -> Sought
             let next = forward(image, first, g.key + g.value);
             key_of(image, next)
         }
-        Stop::Above(g) => {
+        Stop::Above(g, _) => {
             let first = g.after;
             Sought::Found(first, g.key)
         }

@@ -15,7 +15,7 @@ returns : tie.Need-returns
 returns c = record { is = λ x. found-here (c .before .before .before .before .before .seek .ensures .is x) _ _ (c .before .before .before .stop .given .1) _ (c .forward .ensures) }
 
 returns-2 : tie.Need-returns-2
-returns-2 c = record { is = λ x. found-above (c .before .before .seek .ensures .is x) _ (c .enum-told .given .1) }
+returns-2 c = record { is = λ x. found-above (c .before .before .seek .ensures .is x) _ _ (c .enum-told .given .1) }
 
 returns-3 : tie.Need-returns-3
 returns-3 c = record { is = λ x. found-end (c .before .before .seek .ensures .is x) (c .enum-told2 .given .1) }

@@ -35,7 +35,7 @@ returns-2 c = record {
 }
 
 returns-3 : tie.Need-returns-3
-returns-3 c = record { is = λ x. next-above (c .before .before .before .before .seek .ensures .is x) _ (c .before .before .stop2 .given .1) }
+returns-3 c = record { is = λ x. next-above (c .before .before .before .before .seek .ensures .is x) _ _ (c .before .before .stop2 .given .1) }
 
 returns-4 : tie.Need-returns-4
 returns-4 c = record { is = λ x. next-end (c .before .before .seek .ensures .is x) (c .enum-told .given .1) }
