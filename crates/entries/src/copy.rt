@@ -27,7 +27,7 @@ pub fn number(image: &[u8], at: Place) -> usize
 }
 
 // All of src, over the bytes of into from `from` on.
-fn copy_bytes(into: &mut [u8], from: usize, src: &[u8])
+pub fn copy_bytes(into: &mut [u8], from: usize, src: &[u8])
     requires { ⌜ from + length (now src) ≤ length (now into) ⌝ }
     ensures { λ _. ⌜ now (into .exit) ≡ sets (now (into .entry)) from (now (src .entry)) ⌝ }
 {

@@ -17,7 +17,7 @@ use Rattle.stage.specs.declared.change.Change.{Change}
 use Rattle.stage.specs.declared.change.Cursor.{Cursor}
 use Rattle.stage.specs.declared.change.Next.{Next}
 use Rattle.stage.specs.declared.change.Next.the-variants.{New, Old}
-use Rattle.stage.specs.Changes.{spliced, Fits, PassedOver, Stands, Reaching, Onward, Turned, Kept, NextOf}
+use Rattle.stage.specs.Changes.{spliced, Fits, PassedOver, Stands, Has, Onward, Turned, Kept, NextOf}
 use Rattle.stage.proofs.Splices.{FromOn, from-on, splice-before, splice-new, splice-old}
 
 -- ---- pass
@@ -96,7 +96,7 @@ module _ {img : List ℕ} {c : Change} {es : List Entry} {u : Cursor} {p : Place
         };
       }
 
-  module _ (n : u .index ≡ c .index → c .adds ≡ 1 → ⊥) (more : u .index + c .drops < length es + c .adds) where
+  module _ (n : u .index ≡ c .index → c .adds ≡ 1 → ⊥) (more : Has c es u 1) where
     -- an old entry is at the cursor: before the index, or at or behind it
     place-cases : {X : Type 0} → (u .index < c .index → o .old ≡ u .index → X) → (c .index + c .adds ≤ u .index → o .old + c .adds ≡ u .index + c .drops → X) → X
     place-cases f g =
@@ -143,17 +143,19 @@ module _ {img : List ℕ} {c : Change} {es : List Entry} {u : Cursor} {p : Place
 -- ---- answers
 
 pub answer-new : {img : List ℕ} {c : Change} {u v : Cursor}
-    → ((e : Entry) (es : List Entry) → Stands img c es u → u .index + c .drops < length es + c .adds → Turned img c e es u e v) → NextOf img c u (New v)
+    → ((e : Entry) (es : List Entry) → Stands img c es u → Has c es u 1 → Turned img c e es u e v) → NextOf img c u (New v)
 answer-new {img} {c} {u} {v} t =
     record {
+      small = λ g w q. absurd (let z : _≡_ {A = ℕ} 0 1 = cc in omega arith);
       new = λ w q e es s l. let x : v ≡ w = cc in subst (Turned img c e es u e) x (t e es s l);
       old = λ g w q. absurd (let z : _≡_ {A = ℕ} 0 1 = cc in omega arith);
     }
 
-pub answer-old : {img : List ℕ} {c : Change} {u v : Cursor} {g : Sizes}
-    → ((e : Entry) (es : List Entry) → Stands img c es u → u .index + c .drops < length es + c .adds → Kept img c e es u g v) → NextOf img c u (Old g v)
-answer-old {img} {c} {u} {v} {g} t =
+pub answer-old : {img : List ℕ} {c : Change} {u v : Cursor} {g : Sizes} → g .key < 65536 → g .value < 65536
+    → ((e : Entry) (es : List Entry) → Stands img c es u → Has c es u 1 → Kept img c e es u g v) → NextOf img c u (Old g v)
+answer-old {img} {c} {u} {v} {g} a b t =
     record {
+      small = λ h w q. let y : g ≡ h = cc in subst (λ (i : Sizes). (i .key < 65536) × (i .value < 65536)) y (a, b);
       new = λ w q. absurd (let z : _≡_ {A = ℕ} 0 1 = cc in omega arith);
       old = λ h w q e es s l.
           let x : v ≡ w = cc in

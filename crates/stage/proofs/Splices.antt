@@ -36,7 +36,7 @@ module _ (c : Change) (e : Entry) (es : List Entry) (f : Fits c es) where
   unfolding spliced
   splice-before i x xs h q =
       let at : getD (spliced c e es) i x ≡ x = List·getD-append (take (c .index) es) _ x i (omega (arith, before-long)) ∙ getD-take (c .index) es i x h
-          ∙ ap (λ (j : ℕ). getD es j x) (sym (add-zero i)) ∙ sym (getD-drop i es 0 x) ∙ ap (λ (l : List Entry). getD l 0 x) q in
+      ∙ ap (λ (j : ℕ). getD es j x) (sym (add-zero i)) ∙ sym (getD-drop i es 0 x) ∙ ap (λ (l : List Entry). getD l 0 x) q in
       rw (add-one i) (drop-cons (spliced c e es) i x (omega (arith, length-spliced, f .inside)) ∙ ap (λ (y : Entry). y ∷ drop (suc i) (spliced c e es)) at)
 
   -- behind the entry that comes they are the old ones again

@@ -58,11 +58,15 @@ pub record Stands (img : List ℕ) (c : Change) (es : List Entry) (u : Cursor) :
   pub inside : u .index + c .drops ≤ length es + c .adds
   pub along : Along img (u .at) (drop old es)
 
+-- there are n entries from the cursor on
+abbrev pub Has : Change → List Entry → Cursor → ℕ → Type 0
+Has c es u n = u .index + n + c .drops ≤ length es + c .adds
+
 -- there is an entry at the cursor
 pub record Reaching (img : List ℕ) (c : Change) (u : Cursor) : Type 0 where
   pub entries : List Entry
   pub stands : Stands img c entries u
-  pub more : u .index + c .drops < length entries + c .adds
+  pub more : Has c entries u 1
 
 -- the entries from the place on are those from index `old` on, where the new list goes on
 pub record Onward (img : List ℕ) (c : Change) (es : List Entry) (u : Cursor) (at : Place) : Type 0 where
@@ -73,7 +77,7 @@ pub record Onward (img : List ℕ) (c : Change) (es : List Entry) (u : Cursor) (
   pub along : Along img at (drop old es)
 
 pub record Reached (img : List ℕ) (c : Change) (u : Cursor) (at : Place) : Type 0 where
-  pub is : (es : List Entry) → Stands img c es u → u .index + c .drops < length es + c .adds → Onward img c es u at
+  pub is : (es : List Entry) → Stands img c es u → Has c es u 1 → Onward img c es u at
 
 -- r tells whether the entry at the cursor is the one that comes
 pub record IsNew (c : Change) (u : Cursor) (r : Bool) : Type 0 where
@@ -94,6 +98,7 @@ pub record Kept (img : List ℕ) (c : Change) (e : Entry) (es : List Entry) (u :
   pub turned : Turned img c e es u entry v
 
 pub record NextOf (img : List ℕ) (c : Change) (u : Cursor) (r : Next) : Type 0 where
-  pub new : (v : Cursor) → r ≡ New v → (e : Entry) (es : List Entry) → Stands img c es u → u .index + c .drops < length es + c .adds → Turned img c e es u e v
-  pub old : (g : Sizes) (v : Cursor) → r ≡ Old g v → (e : Entry) (es : List Entry) → Stands img c es u → u .index + c .drops < length es + c .adds
+  pub small : (g : Sizes) (v : Cursor) → r ≡ Old g v → (g .key < 65536) × (g .value < 65536)
+  pub new : (v : Cursor) → r ≡ New v → (e : Entry) (es : List Entry) → Stands img c es u → Has c es u 1 → Turned img c e es u e v
+  pub old : (g : Sizes) (v : Cursor) → r ≡ Old g v → (e : Entry) (es : List Entry) → Stands img c es u → Has c es u 1
       → Kept img c e es u g v

@@ -31,7 +31,8 @@ returns-2 c =
     let m = c .before .before .before in
     let e = m .before in
     let r = e .before .before .before in
-    answer-old (λ new es s l. next-old s (r .reach .ensures .is es s l) (e .before .is-new .ensures .other (e .if1 .left)) l _ (m .lengths .ensures) _ (c .forward .ensures) new)
+    answer-old (m .lengths .ensures .keyBelow) (m .lengths .ensures .valueBelow)
+    (λ new es s l. next-old s (r .reach .ensures .is es s l) (e .before .is-new .ensures .other (e .if1 .left)) l _ (m .lengths .ensures) _ (c .forward .ensures) new)
 
 pub next-entry-spec : {M : Type 1} → statement M
 next-entry-spec =

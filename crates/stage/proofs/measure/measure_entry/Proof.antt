@@ -1,0 +1,45 @@
+-- `stage::measure::measure_entry` meets its contract.
+use native.Mathlib.Omega.{arith}
+use borrow.Author.Needs.{needs}
+use Rattle.laws.proofs.Positions.{lens-near}
+use Rattle.stage.proofs.Measurings.{entry-new, entry-old}
+use Rattle.stage.proofs.measure.measure_entry.Statement.{statement}
+use Rattle.stage.proofs.measure.measure_entry.Tie as tie
+
+lens-at-requires : tie.Need-lens-at-requires
+lens-at-requires c κs = omega (arith, lens-near (c .before .args .end))
+
+add-t15 : tie.Need-add-t15
+add-t15 c = let s = c .before .before .before .before .next-entry .ensures .small _ _ (c .before .before .next2 .given .1) in omega (arith, s .0, s .1)
+
+add-t16 : tie.Need-add-t16
+add-t16 c = let s = c .before .before .before .before .next-entry .ensures .small _ _ (c .before .before .next2 .given .1) in omega (arith, s .0, s .1)
+
+returns : tie.Need-returns
+returns c =
+    let n = c .before .before .before in
+    let l = n .before .lens-at .ensures in
+    entry-new (n .next-entry .ensures) (l .0) (l .2) (c .before .next .given .1) (n .before .before .before .pre .1)
+
+returns-2 : tie.Need-returns-2
+returns-2 c =
+    let k = c .before in
+    let n = k .before .before .before in
+    let l = n .before .lens-at .ensures in
+    entry-old (n .next-entry .ensures) (l .0) (l .2) _ (k .before .next2 .given .1)
+
+pub measure-entry-spec : {M : Type 1} → statement M
+measure-entry-spec =
+    tie.close
+    (tie.spec
+    lens-at-requires
+    (λ c κs. search needs)
+    (λ c. search needs)
+    (λ c. omega arith)
+    (λ c. omega arith)
+    (λ c. search needs)
+    (λ c. omega arith)
+    add-t15
+    add-t16
+    returns
+    returns-2)
