@@ -2,10 +2,10 @@
 use Prim.Native.Nat.{ℕ, _+_, _≤_, _<_}
 use native.Mathlib.Omega.{arith}
 use native.Mathlib.Decide.{decLt}
-use mathlib.Core.Path.{_≡_, refl, ap, sym, _∙_, subst}
+use mathlib.Core.Path.{_≡_, refl, sym, subst}
 use mathlib.Core.Logic.{by-cases}
-use mathlib.Core.List.{List, [], _∷_}
-use lib.ListN.{length, drop}
+use mathlib.Core.List.{List, _∷_}
+use lib.ListN.{drop}
 use Rattle.blockfile.specs.Layout.{Entry}
 use Rattle.entries.specs.declared.place.Place.{Place}
 use Rattle.entries.specs.declared.place.Sizes.{Sizes}
@@ -15,7 +15,6 @@ use Rattle.search.proofs.Entries.{along-entry}
 use Rattle.search.proofs.Seeks.{span-ahead}
 use Rattle.stage.specs.declared.change.Change.{Change}
 use Rattle.stage.specs.declared.change.Cursor.{Cursor}
-use Rattle.stage.specs.declared.change.Next.{Next}
 use Rattle.stage.specs.declared.change.Next.the-variants.{New, Old}
 use Rattle.stage.specs.Changes.{spliced, Fits, PassedOver, Stands, Has, Onward, Turned, Kept, NextOf}
 use Rattle.stage.proofs.Splices.{FromOn, from-on, splice-before, splice-new, splice-old}

@@ -1,12 +1,12 @@
 -- The ways through `measure_entry`, `measure_part` and `measure`.
 use Prim.Native.Nat.{ℕ, _+_, _-_, _*_, _≤_, _<_}
 use native.Mathlib.Omega.{arith}
-use mathlib.Core.Path.{_≡_, refl, ap, sym, _∙_, subst}
-use mathlib.Core.List.{List, [], _∷_}
+use mathlib.Core.Path.{_≡_, ap, sym, _∙_, subst}
+use mathlib.Core.List.{List, []}
 use lib.ListN.{length, take, drop, replicate, length-replicate, length-drop}
 use lib.Seq.{take-all}
 use Rattle.blockfile.specs.Bytes.{pg, be16}
-use Rattle.blockfile.specs.Layout.{Entry, entriesFrom, lensAt, entryEnd, entriesEnd}
+use Rattle.blockfile.specs.Layout.{Entry, entriesFrom, lensAt, entriesEnd}
 use Rattle.pages.specs.Places.{Number}
 use Rattle.entries.specs.declared.place.Sizes.{Sizes}
 use Rattle.search.specs.Spans.{SpanOn}
@@ -16,9 +16,8 @@ use Rattle.stage.specs.declared.change.Cursor.{Cursor}
 use Rattle.stage.specs.declared.change.Next.{Next}
 use Rattle.stage.specs.declared.change.Next.the-variants.{New, Old}
 use Rattle.stage.specs.declared.measure.Part.{Part}
-use Rattle.stage.specs.declared.measure.Ends.{Ends}
 use Rattle.stage.specs.Changes.{spliced, Fits, Stands, Has, Reaching, Kept, NextOf}
-use Rattle.stage.specs.Parts.{Sized, part, Measures, EntryMeasured, Going, Gone, PartMeasured, Measurable, Halved, MeasuredOn}
+use Rattle.stage.specs.Parts.{far, Sized, Measures, EntryMeasured, Going, Gone, PartMeasured, Measurable, MeasuredOn}
 use Rattle.stage.proofs.Splices.{length-spliced}
 use Rattle.stage.proofs.Cursors.{start-stands}
 use Rattle.stage.proofs.Sections.{entry-sized, sized-end, gone-start, gone-next}
@@ -71,10 +70,13 @@ module _ {img : List ℕ} {c : Change} {both n : ℕ} {u v : Cursor} {end i : �
             gone-next g (k .turned) (k .is);
       }
 
-  pub measuring-end : n ≤ i → PartMeasured img c u both n (record { end = end; after = v })
-  measuring-end h =
+  pub measuring-near : Going img c u n → end < far
+  measuring-near p = omega (arith, m .most, m .near, p .has, p .stands .fits .few, p .stands .fits .adds)
+
+  pub measuring-end : Going img c u n → n ≤ i → PartMeasured img c u both n (record { end = end; after = v })
+  measuring-end p h =
       let q : i ≡ n = omega (arith, m .most) in
-      record { is = λ e es z s l. subst (λ (j : ℕ). Gone img c e es u j v end) q (m .is e es z s l) }
+      record { near = measuring-near p; is = λ e es z s l. subst (λ (j : ℕ). Gone img c e es u j v end) q (m .is e es z s l) }
 
   module _ (p : Going img c u n) (h : i < n) where
     gone : Gone img c (sample both) (p .entries) u i v end
@@ -82,9 +84,6 @@ module _ {img : List ℕ} {c : Change} {both n : ℕ} {u v : Cursor} {end i : �
 
     pub measuring-reaching : Reaching img c v
     measuring-reaching = record { entries = p .entries; stands = gone .stands; more = omega (arith, gone .index, p .has) }
-
-    pub measuring-near : end < 1099511627776
-    measuring-near = omega (arith, m .near, p .has, p .stands .fits .few, p .stands .fits .adds)
 
 -- ---- measure
 
@@ -140,6 +139,8 @@ module _ {img : List ℕ} {page : ℕ} {c : Change} {half : ℕ} (m : Measurable
     pub measure-done : (b : Part) → PartMeasured img c (a .after) both rest b → MeasuredOn img page c both half (record { stay = a .end; moved = b .end })
     measure-done b l =
         record {
+          stayNear = f .near;
+          movedNear = l .near;
           is = λ x e s.
               let es : List Entry = x .linked .span .entries in
               let g : Gone img c e es u half (a .after) (a .end) = first-gone x e s in

@@ -3,7 +3,7 @@ use Prim.Native.Nat.{ℕ, _+_, _-_, _%_, _≤_, _<_}
 use native.Mathlib.Omega.{arith}
 use mathlib.Core.Path.{_≡_, refl, ap, sym, _∙_}
 use mathlib.Core.List.{List, [], _∷_, _++_, append-assoc}
-use lib.ListN.{length, take, drop, length-append}
+use lib.ListN.{take, drop, length-append}
 use lib.Seq.{take-add, drop-drop}
 use Rattle.blockfile.specs.Layout.{Entry, entriesFrom, lensAt, entryEnd, entriesEnd}
 use Rattle.blockfile.specs.Encode.{entriesBytes}

@@ -20,7 +20,6 @@ use Rattle.entries.specs.declared.place.Sizes.{Sizes}
 use Rattle.search.specs.Spans.{SpanOn, Before, Met, Passed, Ended}
 use Rattle.search.proofs.Rules.{bytewise-ordered}
 use Rattle.search.proofs.Seeks.{span-size}
-use Rattle.stage.specs.declared.change.Spot.{Spot}
 use Rattle.stage.specs.Changes.{spliced, Spotted}
 
 -- the first part, what comes, and the rest without the first entries

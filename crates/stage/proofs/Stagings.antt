@@ -3,7 +3,7 @@ use Prim.Native.Nat.{ℕ, _+_, _≤_, _<_}
 use native.Mathlib.Omega.{arith}
 use mathlib.Core.Path.{_≡_, refl, ap, sym, _∙_, subst}
 use mathlib.Core.List.{List, [], _∷_, _++_, append-nil}
-use lib.ListN.{length, take, drop, drop-of-length-le}
+use lib.ListN.{length, take, drop-of-length-le}
 use lib.Seq.{sets, sets-eq}
 use Rattle.blockfile.specs.Layout.{Entry, entriesFrom, entryEnd, entriesEnd}
 use Rattle.blockfile.specs.Encode.{entriesBytes}
@@ -16,7 +16,7 @@ use Rattle.stage.specs.declared.change.Next.{Next}
 use Rattle.stage.specs.declared.change.Next.the-variants.{New, Old}
 use Rattle.stage.specs.declared.measure.Part.{Part}
 use Rattle.stage.specs.Changes.{spliced, Stands, Has, Kept, NextOf}
-use Rattle.stage.specs.Parts.{part, Gone, EntryPut, Copyable, OldPut, EntryStageable, StagesEntry, EntryStaged, Stageable, Stages, Staged}
+use Rattle.stage.specs.Parts.{part, Gone, EntryPut, Copyable, OldPut, EntryStageable, StagesEntry, EntryStaged, Stageable, Staged}
 use Rattle.stage.proofs.Sections.{part-next, end-next, end-most, turned-part, gone-start, gone-next, bytes-append}
 
 -- ---- stage_entry

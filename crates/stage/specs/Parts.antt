@@ -1,5 +1,5 @@
 -- Parts of the list that a change makes: where they end, and their bytes.
-use Prim.Native.Nat.{ℕ, _+_, _-_, _*_, _≤_, _<_}
+use Prim.Native.Nat.{ℕ, _+_, _-_, _≤_, _<_}
 use mathlib.Core.Path.{_≡_}
 use mathlib.Core.List.{List, [], _∷_, _++_}
 use lib.ListN.{length, take, drop, replicate}
@@ -16,6 +16,10 @@ use Rattle.stage.specs.declared.measure.Ends.{Ends}
 use Rattle.stage.specs.Changes.{spliced, Fits, Stands, Has, Turned}
 
 -- ---- Measured
+
+-- no position in a span's stream reaches this: there are at most 65,536 entries, of at most 131,077 bytes each
+abbrev pub far : ℕ
+far = 1099511627776
 
 -- key and value have n bytes together
 abbrev pub Sized : Entry → ℕ → Type 0
@@ -47,6 +51,7 @@ pub record Gone (img : List ℕ) (c : Change) (e : Entry) (es : List Entry) (u :
   pub is : end ≡ entriesEnd entriesFrom (part c e es u n)
 
 pub record PartMeasured (img : List ℕ) (c : Change) (u : Cursor) (both n : ℕ) (r : Part) : Type 0 where
+  pub near : r .end < far
   pub is : (e : Entry) (es : List Entry) → Sized e both → Stands img c es u → Has c es u n → Gone img c e es u n (r .after) (r .end)
 
 -- a span is on the page, the change is one of its entries, and leaves `half` entries or more
@@ -61,6 +66,8 @@ pub record Halved (c : Change) (e : Entry) (es : List Entry) (half : ℕ) (r : E
   pub moved : r .moved ≡ entriesEnd entriesFrom (drop half (spliced c e es))
 
 pub record MeasuredOn (img : List ℕ) (page : ℕ) (c : Change) (both half : ℕ) (r : Ends) : Type 0 where
+  pub stayNear : r .stay < far
+  pub movedNear : r .moved < far
   pub is : (x : SpanOn img page) (e : Entry) → Sized e both → Halved c e (x .linked .span .entries) half r
 
 -- ---- Staged

@@ -99,10 +99,14 @@ fn reach(image: &[u8], cursor: Cursor, change: Change) -> Place
 fn is_new(cursor: Cursor, change: Change) -> bool
     ensures { λ r. ⌜ IsNew change cursor r ⌝ }
 {
-    if cursor.index != change.index {
+    if change.adds != 1 {
         return false;
     }
-    if change.adds == 1 { true } else { false }
+    if cursor.index == change.index {
+        true
+    } else {
+        false
+    }
 }
 
 // The next entry of the new list.

@@ -1,4 +1,5 @@
 -- `stage::measure::measure` meets its contract.
+use Prim.Native.Nat.{_+_, _≤_}
 use native.Mathlib.Omega.{arith}
 use borrow.Author.Needs.{needs}
 use Rattle.search.proofs.Seeks.{span-inside}
@@ -14,15 +15,13 @@ measure-part-requires c κs =
     let p = c .before .before .before .pre in
     (first-going (p .0) _ (c .start .ensures), p .1)
 
-sub-measure-part : tie.Need-sub-measure-part
-sub-measure-part c =
+-- the first part is not more than all
+room : (c : tie.After-struct-known2)
+    → let s = c .before .before .before .before .before .before .before in
+    s .args .half + s .args .change .drops ≤ c .before .before .before .before .before .get16 .result + s .args .change .adds
+room c =
     let s = c .before .before .before .before in
-    omega (arith, size-room (s .before .before .before .pre .0) _ (s .start .ensures) _ (s .before .get16 .ensures))
-
-sub-measure-part-2 : tie.Need-sub-measure-part-2
-sub-measure-part-2 c =
-    let s = c .before .before .before .before in
-    omega (arith, size-room (s .before .before .before .pre .0) _ (s .start .ensures) _ (s .before .get16 .ensures))
+    size-room (s .before .before .before .pre .0) _ (s .start .ensures) _ (s .before .get16 .ensures)
 
 measure-part-requires-2 : tie.Need-measure-part-requires-2
 measure-part-requires-2 c κs =
@@ -45,7 +44,7 @@ measure-spec =
     (λ c κs. search needs)
     measure-part-requires
     (λ c. search needs)
-    sub-measure-part
-    sub-measure-part-2
+    (λ c. omega (arith, room c))
+    (λ c. omega (arith, room c))
     measure-part-requires-2
     returns)

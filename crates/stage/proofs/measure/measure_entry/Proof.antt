@@ -1,4 +1,5 @@
 -- `stage::measure::measure_entry` meets its contract.
+use Prim.Native.Nat.{_<_}
 use native.Mathlib.Omega.{arith}
 use borrow.Author.Needs.{needs}
 use Rattle.laws.proofs.Positions.{lens-near}
@@ -9,11 +10,9 @@ use Rattle.stage.proofs.measure.measure_entry.Tie as tie
 lens-at-requires : tie.Need-lens-at-requires
 lens-at-requires c κs = omega (arith, lens-near (c .before .args .end))
 
-add-t15 : tie.Need-add-t15
-add-t15 c = let s = c .before .before .before .before .next-entry .ensures .small _ _ (c .before .before .next2 .given .1) in omega (arith, s .0, s .1)
-
-add-t16 : tie.Need-add-t16
-add-t16 c = let s = c .before .before .before .before .next-entry .ensures .small _ _ (c .before .before .next2 .given .1) in omega (arith, s .0, s .1)
+-- the lengths of an old entry
+small : (c : tie.After-struct-known) → let g = c .before .before .next2 .given .0 .0 in (g .key < 65536) × (g .value < 65536)
+small c = c .before .before .before .before .next-entry .ensures .small _ _ (c .before .before .next2 .given .1)
 
 returns : tie.Need-returns
 returns c =
@@ -39,7 +38,7 @@ measure-entry-spec =
     (λ c. omega arith)
     (λ c. search needs)
     (λ c. omega arith)
-    add-t15
-    add-t16
+    (λ c. omega (arith, small c .0, small c .1))
+    (λ c. omega (arith, small c .0, small c .1))
     returns
     returns-2)

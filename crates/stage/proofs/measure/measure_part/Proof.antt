@@ -17,7 +17,7 @@ measure-entry-requires c κs =
     let p = l .before .before .pre in (
       measuring-reaching (l .loop .inv) (p .0) (c .loop-test .taken),
       p .1,
-      measuring-near (l .loop .inv) (p .0) (c .loop-test .taken),
+      measuring-near (l .loop .inv) (p .0),
     )
 
 loop-again : tie.Need-loop-again Inv-loop μ-loop
@@ -26,7 +26,7 @@ loop-again c =
     measuring-next (i .before .loop .inv) (i .loop-test .taken) _ (c .before .measure-entry .ensures)
 
 returns : tie.Need-returns Inv-loop μ-loop
-returns c = measuring-end (c .before .loop .inv) (c .loop-test .left)
+returns c = measuring-end (c .before .loop .inv) (c .before .before .before .pre .0) (c .loop-test .left)
 
 pub measure-part-spec : {M : Type 1} → statement M
 measure-part-spec =
