@@ -34,7 +34,6 @@ start-stands x c f =
       old = 0;
       before = λ h. refl;
       behind = λ h. absurd (omega arith);
-      inside = omega (arith, f .inside);
       along = span-ahead x .along;
     }
 
@@ -90,7 +89,6 @@ module _ {img : List ℕ} {c : Change} {es : List Entry} {u : Cursor} {p : Place
           old = o .old;
           before = λ l. absurd (omega arith);
           behind = λ l. omega arith;
-          inside = omega (arith, s .fits .inside);
           along = o .along;
         };
       }
@@ -133,7 +131,6 @@ module _ {img : List ℕ} {c : Change} {es : List Entry} {u : Cursor} {p : Place
               old = o .old + 1;
               before = λ h. place-cases (λ i l. omega arith) (λ i l. absurd (omega arith));
               behind = λ h. place-cases (λ i l. absurd (omega arith)) (λ i l. omega arith);
-              inside = omega arith;
               along = a .next q t;
             };
           };

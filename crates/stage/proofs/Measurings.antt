@@ -16,8 +16,8 @@ use Rattle.stage.specs.declared.change.Cursor.{Cursor}
 use Rattle.stage.specs.declared.change.Next.{Next}
 use Rattle.stage.specs.declared.change.Next.the-variants.{New, Old}
 use Rattle.stage.specs.declared.measure.Part.{Part}
-use Rattle.stage.specs.Changes.{spliced, Fits, Stands, Has, Reaching, Kept, NextOf}
-use Rattle.stage.specs.Parts.{far, Sized, Measures, EntryMeasured, Going, Gone, PartMeasured, Measurable, MeasuredOn}
+use Rattle.stage.specs.Changes.{spliced, Fits, Stands, Has, Going, Kept, NextOf}
+use Rattle.stage.specs.Parts.{far, Sized, Measures, EntryMeasured, Gone, PartMeasured, Measurable, MeasuredOn}
 use Rattle.stage.proofs.Splices.{length-spliced}
 use Rattle.stage.proofs.Cursors.{start-stands}
 use Rattle.stage.proofs.Sections.{entry-sized, sized-end, gone-start, gone-next}
@@ -82,8 +82,8 @@ module _ {img : List ℕ} {c : Change} {both n : ℕ} {u v : Cursor} {end i : �
     gone : Gone img c (sample both) (p .entries) u i v end
     gone = m .is (sample both) (p .entries) (sample-sized both) (p .stands) (p .has)
 
-    pub measuring-reaching : Reaching img c v
-    measuring-reaching = record { entries = p .entries; stands = gone .stands; more = omega (arith, gone .index, p .has) }
+    pub measuring-going : Going img c v 1
+    measuring-going = record { entries = p .entries; stands = gone .stands; has = omega (arith, gone .index, p .has) }
 
 -- ---- measure
 

@@ -55,18 +55,17 @@ pub record Stands (img : List ℕ) (c : Change) (es : List Entry) (u : Cursor) :
   pub old : ℕ
   pub before : u .index ≤ c .index → old ≡ u .index
   pub behind : c .index < u .index → old + c .adds ≡ u .index + c .drops
-  pub inside : u .index + c .drops ≤ length es + c .adds
   pub along : Along img (u .at) (drop old es)
 
--- there are n entries from the cursor on
+-- n entries are left from the cursor on
 abbrev pub Has : Change → List Entry → Cursor → ℕ → Type 0
 Has c es u n = u .index + n + c .drops ≤ length es + c .adds
 
--- there is an entry at the cursor
-pub record Reaching (img : List ℕ) (c : Change) (u : Cursor) : Type 0 where
+-- the cursor is in such a list, and there are n entries from it on
+pub record Going (img : List ℕ) (c : Change) (u : Cursor) (n : ℕ) : Type 0 where
   pub entries : List Entry
   pub stands : Stands img c entries u
-  pub more : Has c entries u 1
+  pub has : Has c entries u n
 
 -- the entries from the place on are those from index `old` on, where the new list goes on
 pub record Onward (img : List ℕ) (c : Change) (es : List Entry) (u : Cursor) (at : Place) : Type 0 where

@@ -39,11 +39,6 @@ pub record EntryMeasured (img : List ℕ) (c : Change) (u : Cursor) (both end : 
   pub near : r .end ≤ end + 131077
   pub is : (e : Entry) (es : List Entry) → Sized e both → Stands img c es u → Has c es u 1 → Measures img c e es u end r
 
-pub record Going (img : List ℕ) (c : Change) (u : Cursor) (n : ℕ) : Type 0 where
-  pub entries : List Entry
-  pub stands : Stands img c entries u
-  pub has : Has c entries u n
-
 -- the cursor v is n entries behind u, and these end at `end`
 pub record Gone (img : List ℕ) (c : Change) (e : Entry) (es : List Entry) (u : Cursor) (n : ℕ) (v : Cursor) (end : ℕ) : Type 0 where
   pub index : v .index ≡ u .index + n

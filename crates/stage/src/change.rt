@@ -1,7 +1,7 @@
 // A change of a span's entries, and cursors that go through the list that it makes.
 ghost use mathlib.Core.Path.{_≡_};
 ghost use Rattle.search.specs.Spans.{SpanOn, EntryThere};
-ghost use Rattle.stage.specs.Changes.{SpottedOn, PassedOver, Reaching, Reached, IsNew, NextOf};
+ghost use Rattle.stage.specs.Changes.{SpottedOn, PassedOver, Going, Reached, IsNew, NextOf};
 use entries::place::Place;
 use entries::place::Sizes;
 use entries::place::forward;
@@ -82,7 +82,7 @@ fn pass(image: &[u8], at: Place) -> Place
 
 // The place of the next old entry that stays.
 fn reach(image: &[u8], cursor: Cursor, change: Change) -> Place
-    requires { ⌜ Reaching (now image) change cursor ⌝ }
+    requires { ⌜ Going (now image) change cursor 1 ⌝ }
     ensures { λ r. ⌜ Reached (now (image .entry)) change cursor r ⌝ }
 {
     let at = cursor.at;
@@ -111,7 +111,7 @@ fn is_new(cursor: Cursor, change: Change) -> bool
 
 // The next entry of the new list.
 pub fn next_entry(image: &[u8], cursor: Cursor, change: Change) -> Next
-    requires { ⌜ Reaching (now image) change cursor ⌝ }
+    requires { ⌜ Going (now image) change cursor 1 ⌝ }
     ensures { λ r. ⌜ NextOf (now (image .entry)) change cursor r ⌝ }
 {
     let at = reach(image, cursor, change);

@@ -2,8 +2,8 @@
 ghost use mathlib.Core.Path.{_≡_};
 ghost use Prim.Native.Nat.{_+_, _≤_, _<_};
 ghost use Rattle.blockfile.specs.Layout.{lensAt};
-ghost use Rattle.stage.specs.Changes.{Reaching};
-ghost use Rattle.stage.specs.Parts.{far, EntryMeasured, Going, PartMeasured, Measurable, MeasuredOn};
+ghost use Rattle.stage.specs.Changes.{Going};
+ghost use Rattle.stage.specs.Parts.{far, EntryMeasured, PartMeasured, Measurable, MeasuredOn};
 use crate::change::Change;
 use crate::change::Cursor;
 use crate::change::Next;
@@ -38,7 +38,7 @@ pub fn lens_at(v: usize) -> usize
 
 // The entry at the cursor, of which the one that comes has `both` bytes of key and value; the one before it ends at `end`.
 fn measure_entry(image: &[u8], cursor: Cursor, change: Change, both: usize, end: usize) -> Part
-    requires { ⌜ Reaching (now image) change cursor × (both ≤ 131070) × (end < far) ⌝ }
+    requires { ⌜ Going (now image) change cursor 1 × (both ≤ 131070) × (end < far) ⌝ }
     ensures { λ r. ⌜ EntryMeasured (now (image .entry)) change cursor both end r ⌝ }
 {
     let lens = lens_at(end);

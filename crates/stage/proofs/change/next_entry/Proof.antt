@@ -15,7 +15,7 @@ lengths-requires : tie.Need-lengths-requires
 lengths-requires c κs =
     let r = c .before .before .before in
     let p = r .before .before .pre in
-    along-enough (kept-there (p .stands) (r .reach .ensures .is _ (p .stands) (p .more)) (c .before .is-new .ensures .other (c .if1 .left)) (p .more) .along)
+    along-enough (kept-there (p .stands) (r .reach .ensures .is _ (p .stands) (p .has)) (c .before .is-new .ensures .other (c .if1 .left)) (p .has) .along)
 
 forward-requires : tie.Need-forward-requires
 forward-requires c κs =
@@ -23,7 +23,7 @@ forward-requires c κs =
     let e = m .before in
     let r = e .before .before .before in
     let p = r .before .before .pre in
-    along-entry (kept-there (p .stands) (r .reach .ensures .is _ (p .stands) (p .more)) (e .before .is-new .ensures .other (e .if1 .left)) (p .more) .along)
+    along-entry (kept-there (p .stands) (r .reach .ensures .is _ (p .stands) (p .has)) (e .before .is-new .ensures .other (e .if1 .left)) (p .has) .along)
     _ (m .lengths .ensures) .enough
 
 returns-2 : tie.Need-returns-2

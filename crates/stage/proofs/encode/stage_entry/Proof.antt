@@ -7,7 +7,7 @@ use Rattle.stage.proofs.encode.stage_entry.Tie as tie
 next-entry-requires : tie.Need-next-entry-requires
 next-entry-requires c κs =
     let p = c .before .before .before .before .pre in
-    record { entries = p .entries; stands = p .stands; more = p .has }
+    record { entries = p .entries; stands = p .stands; has = p .has }
 
 put-new-requires : tie.Need-put-new-requires
 put-new-requires c κs =

@@ -1,7 +1,7 @@
 -- `stage::measure::measure_part` meets its contract.
 use Prim.Native.Nat.{_-_}
 use native.Mathlib.Omega.{arith}
-use Rattle.stage.proofs.Measurings.{Measuring, measuring-start, measuring-next, measuring-end, measuring-reaching, measuring-near}
+use Rattle.stage.proofs.Measurings.{Measuring, measuring-start, measuring-next, measuring-end, measuring-going, measuring-near}
 use Rattle.stage.proofs.measure.measure_part.Statement.{statement}
 use Rattle.stage.proofs.measure.measure_part.Tie as tie
 
@@ -15,7 +15,7 @@ measure-entry-requires : tie.Need-measure-entry-requires Inv-loop μ-loop
 measure-entry-requires c κs =
     let l = c .before in
     let p = l .before .before .pre in (
-      measuring-reaching (l .loop .inv) (p .0) (c .loop-test .taken),
+      measuring-going (l .loop .inv) (p .0) (c .loop-test .taken),
       p .1,
       measuring-near (l .loop .inv) (p .0),
     )
