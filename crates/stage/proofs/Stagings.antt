@@ -3,8 +3,8 @@ use Prim.Native.Nat.{ℕ, _+_, _≤_, _<_}
 use native.Mathlib.Omega.{arith}
 use mathlib.Core.Path.{_≡_, refl, ap, sym, _∙_, subst}
 use mathlib.Core.List.{List, [], _∷_, _++_, append-nil}
-use lib.ListN.{length, take, drop-of-length-le}
-use lib.Seq.{sets, sets-eq}
+use lib.ListN.{length, take, drop, drop-of-length-le}
+use lib.Seq.{sets, sets-eq, drop-at, length-take-le}
 use Rattle.blockfile.specs.Layout.{Entry, entriesFrom, entryEnd, entriesEnd}
 use Rattle.blockfile.specs.Encode.{entriesBytes}
 use Rattle.laws.proofs.Lists.{sets-append}
@@ -104,9 +104,12 @@ module _ {img : List ℕ} {c : Change} {u : Cursor} {k v : List ℕ} {n : ℕ} {
             let bs : List ℕ = entriesBytes entriesFrom (part c e es u n) in
             let far : entriesFrom + length bs ≡ length old = length-entries (part c e es u n) entriesFrom ∙ sym l in
             let past : length old ≤ entriesFrom + length bs = omega arith in
+            let whole : new ≡ take entriesFrom old ++ bs
+            = g .bytes ∙ sets-eq bs old entriesFrom (omega arith) ∙ ap (λ (x : List ℕ). (take entriesFrom old ++ bs) ++ x) (drop-of-length-le old past)
+            ∙ append-nil (take entriesFrom old ++ bs) in
             record {
-              is = g .bytes ∙ sets-eq bs old entriesFrom (omega arith) ∙ ap (λ (x : List ℕ). (take entriesFrom old ++ bs) ++ x) (drop-of-length-le old past)
-                  ∙ append-nil (take entriesFrom old ++ bs);
+              is = whole;
+              behind = ap (drop entriesFrom) whole ∙ drop-at (take entriesFrom old) bs entriesFrom (length-take-le entriesFrom old (omega arith));
               index = g .gone .index;
               stands = g .gone .stands;
             };

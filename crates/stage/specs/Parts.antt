@@ -112,9 +112,10 @@ pub record Stageable (img : List ℕ) (c : Change) (u : Cursor) (k v : List ℕ)
   pub has : Has c entries u n
   pub long : length stream ≡ entriesEnd entriesFrom (part c (record { key = k; value = v }) entries u n)
 
--- these entries stand there, and the cursor r is behind them
+-- these entries stand there behind the header, and the cursor r is behind them
 pub record Stages (img : List ℕ) (c : Change) (e : Entry) (es : List Entry) (u : Cursor) (n : ℕ) (old new : List ℕ) (r : Cursor) : Type 0 where
   pub is : new ≡ take entriesFrom old ++ entriesBytes entriesFrom (part c e es u n)
+  pub behind : drop entriesFrom new ≡ entriesBytes entriesFrom (part c e es u n)
   pub index : r .index ≡ u .index + n
   pub stands : Stands img c es r
 
