@@ -10,13 +10,14 @@ use mathlib.Core.List.{List, [], _∷_}
 use lib.ListN.{length, take, drop, getD, length-drop, drop-of-length-le}
 use lib.Seq.{drop-cons}
 use lib.Dec.{T}
+use lib.Bits.{bitOr, bitXor, and-le-l, and-le-r, or-add-and, xor-add-and}
 use borrow.Author.Tests.{lt-ltb, le-ltb, eq-eqb, ne-eqb, le-leb, lt-leb}
 use Rattle.blockfile.specs.Order.{bytesBelow, same, allWithin}
 use Rattle.blockfile.proofs.Bools.{so, not-so, same-eq}
 use Rattle.laws.proofs.Orders.{keys-ordered}
 use Rattle.blockfile.specs.Order.{keyRule}
 use Rattle.entries.specs.declared.key.Order.the-variants.{Less, Equal, Greater}
-use Rattle.entries.specs.Keys.{order, Least}
+use Rattle.entries.specs.Keys.{order, Least, SameFrom}
 
 -- ---- Less exactly where the text has the one key below the other, Equal exactly where they are the same
 
@@ -112,6 +113,32 @@ order-behind (suc w) (x ∷ k) (y ∷ l) f g e =
     let is : x ≡ y = omega arith in
     order-behind w k l (omega arith) (omega arith) (sym (order-on _ _ x y (take w k) (take w l) refl refl is) ∙ e) ∙ sym (order-on _ _ x y k l refl refl is)))
 
+-- ---- bytes that two lists have in common
+
+pub same-none : {x y : List ℕ} {i n : ℕ} → n ≤ i → SameFrom x y i n
+same-none h = record { bytes = λ k a b. absurd (omega arith) }
+
+module _ {x y : List ℕ} {i n : ℕ} (s : SameFrom x y i n) where
+  -- one more
+  same-more : {m : ℕ} → m ≤ n + 1 → getD x n 0 ≡ getD y n 0 → SameFrom x y i m
+  same-more h e = record { bytes = λ k a b. by-cases (decLt k n) (λ l. s .bytes k a l) (λ l. let is : k ≡ n = omega arith in rw is e) }
+
+  -- those from j on too, which may be among them
+  pub same-join : {j l m : ℕ} → j ≤ n → m ≤ l → SameFrom x y j l → SameFrom x y i m
+  same-join h f t = record { bytes = λ k a b. by-cases (decLt k n) (λ p. s .bytes k a p) (λ p. t .bytes k (omega arith) (omega arith)) }
+
+xor-same : (a b : ℕ) → bitXor a b ≡ 0 → a ≡ b
+xor-same a b e = omega (arith, e, xor-add-and a b, and-le-l a b, and-le-r a b)
+
+or-none : (a b : ℕ) → bitOr a b ≡ 0 → (a ≡ 0) × (b ≡ 0)
+or-none a b e = let l = or-add-and a b in let h = and-le-l a b in let g = and-le-r a b in (omega (arith, e, l, h, g), omega (arith, e, l, h, g))
+
+-- d has the differences of the bytes from i up to n: then those up to n + 1, with that of one byte more
+pub same-turn : {x y : List ℕ} {i n d : ℕ} → (d ≡ 0 → SameFrom x y i n) → {m : ℕ} → m ≤ n + 1 → bitOr d (bitXor (getD x n 0) (getD y n 0)) ≡ 0 → SameFrom x y i m
+same-turn {x} {y} {i} {n} {d} s h e =
+    let z = or-none d (bitXor (getD x n 0) (getD y n 0)) e in
+    same-more (s (z .0)) h (xor-same (getD x n 0) (getD y n 0) (z .1))
+
 -- ---- two lists whose first i bytes are the same
 
 pub record Alike (x y : List ℕ) (n i : ℕ) : Type 0 where
@@ -152,6 +179,10 @@ module _ {x y : List ℕ} {n i : ℕ} (a : Alike x y n i) where
 
     pub alike-same : length y ≤ length x → length x ≤ length y → Equal ≡ order x y
     alike-same l m = sym (sym (a .rest) ∙ order-none (drop i x) (drop i y) (rw length-drop (omega (arith, ends, a .least .whole m))) (rw length-drop (omega (arith, ends, a .least .other l))))
+
+pub alike-start : {x y : List ℕ} {n : ℕ} → Least (length x) (length y) n → (i : ℕ) → i ≤ n → SameFrom x y 0 i → Alike x y n i
+alike-start l zero h s = alike-none l
+alike-start l (suc i) h s = rw (← add-one i) (alike-more (alike-start l i (omega arith) (record { bytes = λ k a b. s .bytes k a (omega arith) })) (omega arith) (s .bytes i (omega arith) (omega arith)))
 
 -- ---- bytes within bounds
 

@@ -3,7 +3,7 @@ use Prim.Native.Nat.{ℕ, zero, suc, _+_, _*_, _^_, _≤_, _<_}
 use mathlib.Core.Path.{_≡_}
 use mathlib.Core.Bool.{Bool, true, cond}
 use mathlib.Core.List.{List, [], _∷_}
-use lib.ListN.{length, take}
+use lib.ListN.{length, take, getD}
 use Rattle.blockfile.specs.Order.{bytesBelow, same, allWithin}
 use Rattle.entries.specs.declared.key.Order.{Order}
 use Rattle.entries.specs.declared.key.Order.the-variants.{Less, Equal, Greater}
@@ -41,6 +41,10 @@ pub record Least (m n r : ℕ) : Type 0 where
   pub second : r ≤ n
   pub whole : m ≤ n → m ≤ r
   pub other : n ≤ m → n ≤ r
+
+-- x and y have the same bytes from i on up to n
+pub record SameFrom (x y : List ℕ) (i n : ℕ) : Type 0 where
+  pub bytes : (k : ℕ) → i ≤ k → k < n → getD x k 0 ≡ getD y k 0
 
 -- r bytes, at least one, of m and of n bytes that start at offsets a and b of pages, lie on these pages
 pub record Together (a m b n r : ℕ) : Type 0 where

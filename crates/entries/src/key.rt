@@ -1,9 +1,11 @@
 // Keys on the pages of a span: their order, and whether they are names. A key that lies on one page is a part of the image and
 // is read in a plain loop; any other is read over the page breaks.
+ghost use mathlib.Core.Bool.{true};
 ghost use mathlib.Core.Path.{_≡_};
 ghost use Prim.Native.Nat.{_+_, _≤_, _<_};
+ghost use lib.ListN.{length};
 ghost use Rattle.blockfile.specs.Order.{allWithin};
-ghost use Rattle.entries.specs.Keys.{Key, order, Compared, ComparedTo, Printed, Least, Together, Near, OnPage, KeyBytes};
+ghost use Rattle.entries.specs.Keys.{Key, order, Compared, ComparedTo, Printed, Least, SameFrom, Together, Near, OnPage, KeyBytes};
 use crate::place::Place;
 use crate::place::settle;
 use crate::place::step;
@@ -21,12 +23,45 @@ fn least(m: usize, n: usize) -> usize
     if m < n { m } else { n }
 }
 
+// Whether two lists have the same 64 bytes from there on. All of them are looked at, so that the compiler takes many at a time.
+fn same_block(x: &[u8], y: &[u8], from: usize) -> bool
+    requires { ⌜ (from + 64 ≤ length (now x)) × (from + 64 ≤ length (now y)) ⌝ }
+    ensures { λ r. ⌜ (r ≡ true → SameFrom (now (x .entry)) (now (y .entry)) from (from + 64)) ⌝ }
+{
+    let mut differing = 0;
+    let mut i = 0;
+    while i < 64 {
+        differing |= x[from + i] ^ y[from + i];
+        i += 1;
+    }
+    if differing == 0 { true } else { false }
+}
+
+// A number of bytes that two lists begin with alike, n at most, and n where their first n bytes are the same and at least a
+// block. The last block ends at n, so that it may overlap with the one before.
+fn same_start(x: &[u8], y: &[u8], n: usize) -> usize
+    requires { ⌜ (n ≤ length (now x)) × (n ≤ length (now y)) ⌝ }
+    ensures { λ r. ⌜ (r ≤ n) × SameFrom (now (x .entry)) (now (y .entry)) 0 r ⌝ }
+{
+    if n < 64 {
+        return 0;
+    }
+    let mut i = 0;
+    while i < n - 64 {
+        if !same_block(x, y, i) {
+            return i;
+        }
+        i += 64;
+    }
+    if same_block(x, y, n - 64) { n } else { i }
+}
+
 // The order of two lists of bytes.
 fn compare_bytes(x: &[u8], y: &[u8]) -> Order
     ensures { λ r. ⌜ r ≡ order (now (x .entry)) (now (y .entry)) ⌝ }
 {
     let n = least(x.len(), y.len());
-    let mut i = 0;
+    let mut i = same_start(x, y, n);
     while i < n {
         let a = x[i];
         let b = y[i];

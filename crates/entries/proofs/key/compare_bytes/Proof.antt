@@ -2,7 +2,7 @@
 use Prim.Native.Nat.{_-_}
 use native.Mathlib.Omega.{arith}
 use borrow.Author.Needs.{needs}
-use Rattle.entries.proofs.Orders.{Alike, alike-none, alike-less, alike-greater, alike-more, alike-shorter, alike-longer, alike-same}
+use Rattle.entries.proofs.Orders.{Alike, alike-start, alike-less, alike-greater, alike-more, alike-shorter, alike-longer, alike-same}
 use Rattle.entries.proofs.key.compare_bytes.Statement.{statement}
 use Rattle.entries.proofs.key.compare_bytes.Tie as tie
 
@@ -13,7 +13,7 @@ abbrev μ-loop : tie.MeasureT-loop
 μ-loop x y n i₀ i = n - i
 
 loop-holds : tie.Need-loop-holds Inv-loop μ-loop
-loop-holds c = alike-none (c .least .ensures)
+loop-holds c = let e = c .same-start .ensures in alike-start (c .before .least .ensures) _ (e .0) (e .1)
 
 returns : tie.Need-returns Inv-loop μ-loop
 returns c = alike-less (c .before .before .before .before .before .loop .inv) (c .before .before .before .before .loop-test .taken) (c .if2 .taken)
@@ -40,6 +40,7 @@ compare-bytes-spec =
     Inv-loop
     μ-loop
     (λ c κs. search needs)
+    (λ c κs. (c .least .ensures .first, c .least .ensures .second))
     loop-holds
     (λ c. omega arith)
     (λ c. omega arith)
