@@ -2,13 +2,12 @@
 use Prim.Native.Nat.{ℕ, zero, suc, _+_, _*_, _-_, _≤_, _<_}
 use native.Mathlib.Omega.{arith}
 use native.Mathlib.Decide.{decLt}
-use native.Mathlib.Numerals.{add-one}
 use mathlib.Core.Path.{_≡_, refl, ap, sym, _∙_}
 use mathlib.Core.Logic.{by-cases}
 use mathlib.Core.Bool.{Bool, true, false}
 use mathlib.Core.List.{List, [], _∷_}
-use lib.ListN.{length, take, drop, getD, length-drop}
-use lib.Seq.{drop-at, drop-cons, length-take-le, take-add, take-take}
+use lib.ListN.{length, take, drop, length-drop}
+use lib.Seq.{drop-at, drop-cons, drop-drop, length-take-le, take-add, take-take}
 use Rattle.blockfile.specs.Order.{allWithin}
 use Rattle.entries.specs.declared.key.Order.{Order}
 use Rattle.entries.specs.declared.key.Order.the-variants.{Less, Equal, Greater}
@@ -18,7 +17,7 @@ use Rattle.entries.specs.Places.{IsPage, Rest, Enough, Settled, Stepped}
 use Rattle.entries.specs.Keys.{KeyAt, Key, order, Compared, ComparedTo, Printed, Least, Together, Near, KeyBytes}
 use Rattle.entries.proofs.Rests.{rest-one, rest-take, rest-in}
 use Rattle.entries.proofs.Places.{gap-one}
-use Rattle.entries.proofs.Orders.{order-less, order-greater, order-on, order-none, order-shorter, order-longer, order-part, order-behind, within-low, within-high, within-on}
+use Rattle.entries.proofs.Orders.{order-none, order-shorter, order-longer, order-part, order-behind, within-low, within-high, within-on}
 
 module _ {img : List ℕ} {at : Place} {n : ℕ} {k : List ℕ} (a : KeyAt img at n k) where
   pub key-length : length k ≡ n
@@ -98,6 +97,9 @@ module _ {img : List ℕ} {a : Place} {m : ℕ} (x : List ℕ) (u : KeyBytes img
 
   pub compared-to-bytes : (l : List ℕ) (r : Order) → r ≡ order x l → ComparedTo img a m l r
   compared-to-bytes l r e = record { is = λ k p. rw (← u .are k p) e }
+
+  pub compared-to-part : (l : List ℕ) (j n : ℕ) (r : Order) → r ≡ order x (take (j + n - j) (drop j l)) → ComparedTo img a m (take n (drop j l)) r
+  compared-to-part l j n r e = let w : j + n - j ≡ n = omega arith in compared-to-bytes (take n (drop j l)) r (e ∙ ap (λ (k : ℕ). order x (take k (drop j l))) w)
 
   pub printed-bytes : (r : Bool) → r ≡ allWithin 0x21 0x7e x → Printed img a m r
   printed-bytes r e = record { is = λ k p. e ∙ ap (allWithin 0x21 0x7e) (u .are k p) }
@@ -181,7 +183,7 @@ module _ {img : List ℕ} {a : Place} {m : ℕ} {b : Place} {n : ℕ} {x : Place
                 same = order-behind w (c .k) (c .l) kLong lLong (sym parts ∙ e) ∙ c .same;
               }
 
--- ---- a key and a list byte by byte: i bytes of the key are left from x on, the list is at j
+-- ---- a key and a list page part by page part: i bytes of the key are left from x on, the list is at j
 
 pub record Against (img : List ℕ) (a : Place) (m : ℕ) (l : List ℕ) (x : Place) (i j : ℕ) : Type 0 where
   pub first : List ℕ
@@ -211,29 +213,35 @@ module _ {img : List ℕ} {a : Place} {m : ℕ} {l : List ℕ} {x : Place} {i j 
     pub against-enough : Enough img x 1
     against-enough = key-enough (c .kThere) z
 
-    module _ (h : j < length l) (g : Got) (s : Stepped img x g) where
-      w : Headed img i (c .k) g
-      w = key-step img x i (c .k) (c .kThere) z g s
+    module _ (h : j < length l) {u : Place} (s : Settled img x 1 u) {w : ℕ} (g : Together (u .offset) i 0 (length l - j) w) where
+      settled : KeyAt img u i (c .k)
+      settled = key-settled (c .kThere) z s
 
-      next : drop j l ≡ getD l j 0 ∷ drop (j + 1) l
-      next = rw add-one (drop-cons l j 0 h)
+      pub against-key : Key img u w
+      against-key = record { key = take w (c .k); there = key-first settled w (g .first) }
 
-      pub against-less : g .byte < getD l j 0 → ComparedTo img a m l Less
-      against-less e = against Less (order-less _ _ _ _ _ _ (w .is) next e)
+      module _ {r : Order} (p : ComparedTo img u w (take w (drop j l)) r) where
+        part : r ≡ order (take w (c .k)) (take w (drop j l))
+        part = p .is (take w (c .k)) (key-first settled w (g .first))
 
-      module _ (most : getD l j 0 ≤ g .byte) where
-        pub against-greater : getD l j 0 < g .byte → ComparedTo img a m l Greater
-        against-greater e = against Greater (order-greater _ _ _ _ _ _ (w .is) next e)
+        keyLong : w ≤ length (c .k)
+        keyLong = omega (arith, key-length (c .kThere), g .first)
 
-        pub against-next : g .byte ≤ getD l j 0 → Against img a m l (g .after) (i - 1) (j + 1)
+        listLong : w ≤ length (drop j l)
+        listLong = rw length-drop (g .second)
+
+        pub against-part : {o : Order} → r ≡ o → (o ≡ Equal → ⊥) → ComparedTo img a m l o
+        against-part {o} is d = against o (order-part w (c .k) (drop j l) keyLong listLong (λ e. d (sym is ∙ part ∙ e)) ∙ sym part ∙ is)
+
+        pub against-next : r ≡ Equal → Against img a m l (record { page = u .page; offset = u .offset + w }) (i - w) (j + w)
         against-next e =
             record {
               first = c .first;
               firstThere = c .firstThere;
-              k = w .tail;
-              kThere = w .key;
-              few = omega arith;
-              same = sym (order-on _ _ _ _ _ _ (w .is) next (omega arith)) ∙ c .same;
+              k = drop w (c .k);
+              kThere = key-behind settled w (g .first) (g .here);
+              few = omega (arith, g .second, c .few);
+              same = ap (order (drop w (c .k))) (sym (drop-drop w j l)) ∙ order-behind w (c .k) (drop j l) keyLong listLong (sym part ∙ e) ∙ c .same;
             }
 
 -- ---- the bytes of a name: i of them are left from x on

@@ -146,7 +146,7 @@ pub record Alike (x y : List ℕ) (n i : ℕ) : Type 0 where
   pub few : i ≤ n
   pub rest : order (drop i x) (drop i y) ≡ order x y
 
-pub alike-none : {x y : List ℕ} {n : ℕ} → Least (length x) (length y) n → Alike x y n 0
+alike-none : {x y : List ℕ} {n : ℕ} → Least (length x) (length y) n → Alike x y n 0
 alike-none h = record { least = h; few = omega arith; rest = refl }
 
 module _ {x y : List ℕ} {n i : ℕ} (a : Alike x y n i) where

@@ -3,7 +3,7 @@
 ghost use mathlib.Core.Bool.{true};
 ghost use mathlib.Core.Path.{_≡_};
 ghost use Prim.Native.Nat.{_+_, _≤_, _<_};
-ghost use lib.ListN.{length};
+ghost use lib.ListN.{length, take, drop};
 ghost use Rattle.blockfile.specs.Order.{allWithin};
 ghost use Rattle.entries.specs.Keys.{Key, order, Compared, ComparedTo, Printed, Least, SameFrom, Together, Near, OnPage, KeyBytes};
 use crate::place::Place;
@@ -194,7 +194,16 @@ pub fn compare_keys(image: &[u8], a: Place, m: usize, b: Place, n: usize) -> Ord
     compare_across(image, a, m, b, n)
 }
 
-// The order of a key and a list of bytes, byte by byte over page breaks.
+// The order of n bytes on one page and as many of a list from there on.
+fn compare_part(image: &[u8], at: Place, n: usize, key: &[u8], from: usize) -> Order
+    requires { ⌜ Key (now image) at n × (0 < n) × (at .offset + n ≤ 1024) × (from + n ≤ length (now key)) ⌝ }
+    ensures { λ r. ⌜ ComparedTo (now (image .entry)) at n (take n (drop from (now (key .entry)))) r ⌝ }
+{
+    let end = from + n;
+    compare_bytes(key_bytes(image, at, n), &key[from..end])
+}
+
+// The order of a key and a list of bytes, page part by page part.
 fn compare_slice_across(image: &[u8], a: Place, m: usize, key: &[u8]) -> Order
     requires { ⌜ Key (now image) a m ⌝ }
     ensures { λ r. ⌜ ComparedTo (now (image .entry)) a m (now (key .entry)) r ⌝ }
@@ -206,18 +215,24 @@ fn compare_slice_across(image: &[u8], a: Place, m: usize, key: &[u8]) -> Order
         if key.len() <= j {
             return Order::Greater;
         }
-        let c = step(image, x);
-        let first = c.byte;
-        let second = key[j];
-        if first < second {
-            return Order::Less;
+        let u = settle(image, x, 1);
+        let w = together(u.offset, i, 0, key.len() - j);
+        let order = compare_part(image, u, w, key, j);
+        match order {
+            Order::Less => {
+                return Order::Less;
+            }
+            Order::Greater => {
+                return Order::Greater;
+            }
+            Order::Equal => {}
         }
-        if second < first {
-            return Order::Greater;
-        }
-        x = c.after;
-        i -= 1;
-        j += 1;
+        x = Place {
+            page: u.page,
+            offset: u.offset + w,
+        };
+        i -= w;
+        j += w;
     }
     if j < key.len() {
         Order::Less
