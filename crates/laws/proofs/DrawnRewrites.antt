@@ -31,28 +31,35 @@ moved m q xs ys = simp count-append (omega arith)
 abbrev pub drawnAt : Table → (i : ℕ) → List Block → (wanted : ℕ) → Drawn
 drawnAt t i bs wanted = draw (spanAt t i .conts) wanted [] bs
 
+-- the span at place i is let go: its pages are in hand, its continuation pages first
+pub let-go : (t : Table) (i : ℕ) → i < length (columns t) → (bs : List Block) {c z : ℕ} {img : List ℕ} (o : Around) → Shows c z img (among o t bs [])
+    → Shows c z img
+    (held (o .skipsBefore ++ skipListOf t ∷ o .skipsAfter) ((o .spansBefore ++ spansLeft t i) ++ (spansRight t i ++ o .spansAfter)) (o .towersFirst ++ (towersIn t ++ o .towersLast)) bs
+    (spanAt t i .conts ++ (spanAt t i .page ∷ [])))
+let-go t i inside bs {c} {z} {img} o s =
+    respare _ (λ m. moved m (spanAt t i .page) (spanAt t i .conts) [])
+    (forget-span (o .spansBefore ++ spansLeft t i) (spansRight t i ++ o .spansAfter) here
+    (subst (λ (l : List LinkedSpan). Shows c z img (held (o .skipsBefore ++ skipListOf t ∷ o .skipsAfter) l (o .towersFirst ++ (towersIn t ++ o .towersLast)) bs [])) place s))
+  where
+    here : LinkedSpan
+    here = linked (t .spanSize) (lastPage 0 (spansTo t i)) (firstPage 0 (spansPast t i)) (spanAt t i)
+
+    place : o .spansBefore ++ (spansIn t ++ o .spansAfter) ≡ (o .spansBefore ++ spansLeft t i) ++ here ∷ (spansRight t i ++ o .spansAfter)
+    place =
+        ap (λ (l : List LinkedSpan). o .spansBefore ++ (l ++ o .spansAfter)) (spans-before t i inside)
+        ∙ in-middle (o .spansBefore) (spansLeft t i) here (spansRight t i) (o .spansAfter)
+
 module _ (t : Table) (i : ℕ) (inside : i < length (columns t)) (bs : List Block) (wanted : ℕ) (room : wanted ≤ length (spanAt t i .conts) + freeCount bs) where
   -- the span at place i is let go, and pages are drawn
   pub drawn-turn : {c z : ℕ} (o : Around) → Few bs
       → Turns c z (drawnAt t i bs wanted .writes) (among o t bs [])
       (opened o t i (drawnAt t i bs wanted .free) (drawnAt t i bs wanted .pages) [])
-  drawn-turn {c} {z} o few =
+  drawn-turn o few =
       record {
         turn = λ img s.
             respare _ (λ m. sym (moved m (spanAt t i .page) (drawnAt t i bs wanted .pages) []))
-            (drawn-shows (spanAt t i .conts) wanted [] bs room (spanAt t i .page ∷ []) few
-            (respare _ (λ m. moved m (spanAt t i .page) (spanAt t i .conts) [])
-            (forget-span (o .spansBefore ++ spansLeft t i) (spansRight t i ++ o .spansAfter) here
-            (subst (λ (l : List LinkedSpan). Shows c z img (held (o .skipsBefore ++ skipListOf t ∷ o .skipsAfter) l (o .towersFirst ++ (towersIn t ++ o .towersLast)) bs [])) place s))));
+            (drawn-shows (spanAt t i .conts) wanted [] bs room (spanAt t i .page ∷ []) few (let-go t i inside bs o s));
       }
-    where
-      here : LinkedSpan
-      here = linked (t .spanSize) (lastPage 0 (spansTo t i)) (firstPage 0 (spansPast t i)) (spanAt t i)
-
-      place : o .spansBefore ++ (spansIn t ++ o .spansAfter) ≡ (o .spansBefore ++ spansLeft t i) ++ here ∷ (spansRight t i ++ o .spansAfter)
-      place =
-          ap (λ (l : List LinkedSpan). o .spansBefore ++ (l ++ o .spansAfter)) (spans-before t i inside)
-          ∙ in-middle (o .spansBefore) (spansLeft t i) here (spansRight t i) (o .spansAfter)
 
   module _ (r : KeyRule) (short : Short r) (ok : TableOk r t) (es : List Entry) (most : length es ≤ t .spanSize + 1) (enough : wantedBy (parts t es) ≤ wanted) where
     -- and it is rewritten with the entries es: the pages that this does not want stay in hand

@@ -134,7 +134,8 @@ pub many-entries : (z : ℕ) → z ≤ 128 → (ss : List Span) → Every (λ s.
 many-entries z l [] h = omega arith
 many-entries z l (s ∷ ss) h = rw (length-append (s .entries) (gather (λ s. s .entries) ss)) (omega (arith, many-entries z l ss (h .1), h .0))
 
-many-towers : (cs : List Column) → length (towersOf cs) ≤ length cs
+-- a table has at most as many towers as spans
+pub many-towers : (cs : List Column) → length (towersOf cs) ≤ length cs
 many-towers [] = omega arith
 many-towers (c ∷ cs) = go (c .tower) (many-towers cs)
   where

@@ -83,7 +83,8 @@ module _ (img : List ℕ) (n o : ℕ) (bs : List ℕ) (pos : 1 ≤ n) (fits : o 
 
 -- ---- Entries do not see what stands before position 12
 
-drop-take : (n m : ℕ) (l : List ℕ) → drop n (take (n + m) l) ≡ take m (drop n l)
+-- bytes in the middle of a list
+pub drop-take : (n m : ℕ) (l : List ℕ) → drop n (take (n + m) l) ≡ take m (drop n l)
 drop-take zero m l = rw zero-add
 drop-take (suc n) m [] = rw (take-nil {A = ℕ} (suc n + m), take-nil {A = ℕ} m)
 drop-take (suc n) m (x ∷ xs) = rw suc-add (drop-take n m xs)

@@ -93,6 +93,15 @@ module _ {img : List ℕ} {root : ℕ} (t : Reading img root) where
             at = sym e;
           }
 
+      -- it is the table's, with the table's rule
+      pub reading-at : reading-span .linked .span ≡ spanAt (t .table) i
+      unfolding reading-span
+      reading-at = refl
+
+      pub reading-rule : reading-span .rule ≡ t .rule
+      unfolding reading-span
+      reading-rule = refl
+
       -- what is said of every span on the page is said of this one
       pub over-at : (k : List ℕ) (b : Bool) → OverOn img page k b → b ≡ over (t .rule) k (spanAt (t .table) i .entries)
       unfolding reading-span

@@ -1,4 +1,4 @@
--- The ways through `put16`, `put32`, `put_header`, `put_lengths`, `put_new` and `put_old`: stores one behind another.
+-- The ways through `put16`, `put_lengths`, `put_new` and `put_old`: stores one behind another.
 use Prim.Native.Nat.{ℕ, suc, _+_, _-_, _≤_}
 use native.Mathlib.Omega.{arith}
 use native.Mathlib.Numerals.{add-one}
@@ -6,7 +6,7 @@ use mathlib.Core.Path.{_≡_, refl, ap, sym, _∙_}
 use mathlib.Core.List.{List, [], _∷_, _++_, append-assoc, append-nil}
 use lib.ListN.{length, take, drop, set, replicate, length-append, length-replicate, length-drop, drop-of-length-le, replicate-append-replicate}
 use lib.Seq.{sets, sets-eq, take-at, take-all, drop-drop}
-use Rattle.blockfile.specs.Bytes.{word16, word32}
+use Rattle.blockfile.specs.Bytes.{word16}
 use Rattle.blockfile.specs.Layout.{Entry, lensAt, entryEnd}
 use Rattle.blockfile.specs.Encode.{entriesBytes}
 use Rattle.laws.proofs.Lists.{sets-append}
@@ -19,27 +19,10 @@ use Rattle.search.proofs.Entries.{bytes-copied, bytes-length}
 use Rattle.stage.specs.Parts.{lengthBytes, Lengthened, EntryPut, Copyable}
 use Rattle.stage.proofs.Sections.{entry-sized, sized-end}
 
--- ---- numbers
+-- ---- put16
 
-module _ (l : List ℕ) (i : ℕ) where
-  pub store-two : (x y : ℕ) → set (set l i x) (i + 1) y ≡ sets l i (x ∷ y ∷ [])
-  store-two x y = rw (add-one i)
-
-  pub store-four : (x y z w : ℕ) → set (set (set (set l i x) (i + 1) y) (i + 2) z) (i + 3) w ≡ sets l i (x ∷ y ∷ z ∷ w ∷ [])
-  store-four x y z w =
-      let two : i + 2 ≡ suc (suc i) = omega arith in
-      let three : i + 3 ≡ suc (suc (suc i)) = omega arith in
-      rw (add-one i, two, three)
-
--- ---- put_header
-
-pub header-put : (l : List ℕ) (p n m s : ℕ) {l1 l2 l3 l4 : List ℕ} → 12 ≤ length l → l1 ≡ sets l 0 (word32 p) → l2 ≡ sets l1 4 (word32 n)
-    → l3 ≡ sets l2 8 (word16 m) → l4 ≡ sets l3 10 (word16 s) → l4 ≡ word32 p ++ (word32 n ++ (word16 m ++ (word16 s ++ drop 12 l)))
-unfolding word32 word16
-header-put l p n m s h e1 e2 e3 e4 =
-    e4
-    ∙ ap (λ (x : List ℕ). sets x 10 (word16 s)) (e3 ∙ ap (λ (x : List ℕ). sets x 8 (word16 m)) (e2 ∙ ap (λ (x : List ℕ). sets x 4 (word32 n)) e1))
-    ∙ sets-eq (word32 p ++ (word32 n ++ (word16 m ++ word16 s))) l 0 h
+pub store-two : (l : List ℕ) (i x y : ℕ) → set (set l i x) (i + 1) y ≡ sets l i (x ∷ y ∷ [])
+store-two l i x y = rw (add-one i)
 
 -- ---- put_lengths
 

@@ -1,10 +1,9 @@
 // Entries encoded in a buffer, as the stream of a span: 12 bytes for its header, then the entries.
 ghost use mathlib.Core.Path.{_≡_};
-ghost use mathlib.Core.List.{_++_};
 ghost use Prim.Native.Nat.{_+_, _≤_};
-ghost use lib.ListN.{length, drop};
+ghost use lib.ListN.{length};
 ghost use lib.Seq.{sets};
-ghost use Rattle.blockfile.specs.Bytes.{word16, word32};
+ghost use Rattle.blockfile.specs.Bytes.{word16};
 ghost use Rattle.blockfile.specs.Layout.{lensAt, entryEnd};
 ghost use Rattle.stage.specs.Parts.{Lengthened, EntryPut, Copyable, OldPut, EntryStageable, EntryStaged, Stageable, Staged};
 use crate::change::Change;
@@ -24,28 +23,6 @@ fn put16(stream: &mut [u8], at: usize, v: usize)
 {
     stream[at] = (v / 256 % 256) as u8;
     stream[at + 1] = (v % 256) as u8;
-}
-
-// A number as four bytes.
-fn put32(stream: &mut [u8], at: usize, v: usize)
-    requires { ⌜ at + 4 ≤ length (now stream) ⌝ }
-    ensures { λ _. ⌜ now (stream .exit) ≡ sets (now (stream .entry)) at (word32 v) ⌝ }
-{
-    stream[at] = (v / 16777216 % 256) as u8;
-    stream[at + 1] = (v / 65536 % 256) as u8;
-    stream[at + 2] = (v / 256 % 256) as u8;
-    stream[at + 3] = (v % 256) as u8;
-}
-
-// The header of a span: its links, its max keys and its number of entries. The other bytes are kept.
-pub fn put_header(stream: &mut [u8], prev: usize, next: usize, max: usize, size: usize)
-    requires { ⌜ 12 ≤ length (now stream) ⌝ }
-    ensures { λ _. ⌜ now (stream .exit) ≡ word32 prev ++ (word32 next ++ (word16 max ++ (word16 size ++ drop 12 (now (stream .entry))))) ⌝ }
-{
-    put32(stream, 0, prev);
-    put32(stream, 4, next);
-    put16(stream, 8, max);
-    put16(stream, 10, size)
 }
 
 // The lengths of an entry, and zeros before them where they do not begin at `end`. Answers where its key begins.

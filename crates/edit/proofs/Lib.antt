@@ -1,0 +1,14 @@
+pub mod Cuts
+pub mod Stands
+pub mod FieldsRead
+pub mod Stagings
+pub mod Risings
+pub mod Shapings
+pub mod Plannings
+pub mod Makings
+pub mod PartsStaged
+pub mod Tallness
+pub mod Committing
+pub mod Committed
+pub mod Rewritings
+pub mod Puttings

@@ -1,0 +1,91 @@
+use borrow.Author.Needs.{needs}
+use native.Mathlib.Omega.{arith}
+use mathlib.Core.Path.{refl, _∙_}
+use Rattle.edit.proofs.Rewritings.{all-few, plan-ready, conts-ready, counted, conts-near, span-near, tower-near, whole-pages, parts-ready, commit-of, no-room, has-room, rewritten}
+use Rattle.edit.proofs.rewrite.rewrite.Statement.{statement}
+use Rattle.edit.proofs.rewrite.rewrite.Tie as tie
+
+make-plan-requires : tie.Need-make-plan-requires
+make-plan-requires c κs = plan-ready (c .before .before .before .before .before .pre)
+
+count-conts-requires : tie.Need-count-conts-requires
+count-conts-requires c κs =
+    let p = c .before in
+    conts-ready (p .before .before .before .before .before .before .pre .is) (p .make-plan .ensures)
+
+add-if1 : tie.Need-add-if1
+add-if1 c =
+    let p = c .before .before in
+    let h = p .before .before .before .before .before .before .pre in
+    omega (arith, counted (h .is) (p .make-plan .ensures) _ (c .count-conts .ensures), h .is .pages, all-few (h .is), h .is .standing .readable .small)
+
+add-if1-2 : tie.Need-add-if1-2
+add-if1-2 c =
+    let p = c .before .before .before in
+    let h = p .before .before .before .before .before .before .pre in
+    omega (arith, conts-near (h .is) (p .make-plan .ensures), span-near (h .is) (p .make-plan .ensures))
+
+add-if1-3 : tie.Need-add-if1-3
+add-if1-3 c =
+    let p = c .before .before .before .before in
+    let h = p .before .before .before .before .before .before .pre in
+    omega (arith, conts-near (h .is) (p .make-plan .ensures), span-near (h .is) (p .make-plan .ensures), tower-near (h .is) (p .make-plan .ensures))
+
+returns : tie.Need-returns
+returns c =
+    let n = c .before .before .before in
+    no-room (n .before .before .make-plan .ensures) _ (n .count-conts .ensures) (c .if1 .taken)
+
+stage-parts-requires : tie.Need-stage-parts-requires
+stage-parts-requires c κs =
+    let t = c .before .before in
+    let n = t .before .before .before in
+    let p = n .before .before in
+    let h = p .before .before .before .before .before .before .pre in
+    parts-ready (h .is) (p .make-plan .ensures) (whole-pages h refl (p .make-plan .ensures)) (has-room (p .make-plan .ensures) _ (n .count-conts .ensures) (t .if1 .left) (h .is)) _ (h .lent)
+
+commit-requires : tie.Need-commit-requires
+commit-requires c κs =
+    let g = c .before .before .before .before in
+    let t = g .before .before .before in
+    let n = t .before .before .before in
+    let p = n .before .before in
+    let h = p .before .before .before .before .before .before .pre in
+    record {
+      rule = h .rule;
+      table = h .table;
+      free = h .blocks;
+      place = h .place;
+      entries = _;
+      is = commit-of (h .is) (p .make-plan .ensures) (whole-pages h refl (p .make-plan .ensures))
+          (has-room (p .make-plan .ensures) _ (n .count-conts .ensures) (t .if1 .left) (h .is)) _ (g .stage-parts .kept .1 .0 ∙ h .lent) (g .stage-parts .ensures);
+    }
+
+returns-2 : tie.Need-returns-2
+returns-2 c =
+    let d = c .before .before .before .before in
+    let g = d .before .before .before .before .before in
+    let t = g .before .before .before in
+    let n = t .before .before .before in
+    let p = n .before .before in
+    let h = p .before .before .before .before .before .before .pre in
+    rewritten (p .make-plan .ensures) _ (n .count-conts .ensures) (t .if1 .left) (whole-pages h refl (p .make-plan .ensures)) _ _ (g .stage-parts .kept .1 .0 ∙ h .lent)
+    (g .stage-parts .ensures) (d .commit .ensures)
+
+pub rewrite-spec : {M : Type 1} → statement M
+rewrite-spec =
+    tie.close
+    (tie.spec
+    (λ c. search needs)
+    make-plan-requires
+    count-conts-requires
+    add-if1
+    add-if1-2
+    add-if1-3
+    (λ c. search needs)
+    returns
+    stage-parts-requires
+    commit-requires
+    (λ c. search needs)
+    (λ c. search needs)
+    returns-2)

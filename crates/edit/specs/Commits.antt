@@ -1,0 +1,43 @@
+-- A span of a table rewritten: what is asked for once its entries are staged, and what is left.
+use Prim.Native.Nat.{ℕ, _+_, _*_, _≤_, _<_}
+use mathlib.Core.Path.{_≡_}
+use mathlib.Core.List.{List, [], _++_}
+use lib.ListN.{length}
+use Rattle.blockfile.specs.Bytes.{apply}
+use Rattle.blockfile.specs.Layout.{Entry, Table, Block, columns, freeCount}
+use Rattle.blockfile.specs.Order.{KeyRule}
+use Rattle.blockfile.specs.Free.{Drawn, draw}
+use Rattle.blockfile.specs.Put.{spanAt, parts, wantedBy, rewrite}
+use Rattle.edit.specs.declared.plan.Plan.{Plan}
+use Rattle.edit.specs.Standing.{Standing}
+use Rattle.edit.specs.Makes.{PlanOf}
+use Rattle.edit.specs.Stages.{PartsIn}
+
+-- the span at place i of the table is to have the entries es: the plan is theirs, they are staged, and there is room
+pub record CommitOf (img buffer : List ℕ) (x : Plan) (r : KeyRule) (t : Table) (bs : List Block) (i : ℕ) (es : List Entry) : Type 0 where
+  pub standing : Standing img r t bs
+  pub inside : i < length (columns t)
+  pub root : x .root ≡ t .root
+  pub page : x .page ≡ spanAt t i .page
+  pub plan : PlanOf t i es x
+  pub few : length es ≤ t .spanSize + 1
+  pub staged : PartsIn x es buffer
+  pub room : wantedBy (parts t es) ≤ length (spanAt t i .conts) + freeCount bs
+  pub base : 1024 * x .base ≡ length img
+  pub lent : length buffer ≡ length img
+
+pub record CommitReady (img buffer : List ℕ) (x : Plan) : Type 0 where
+  pub rule : KeyRule
+  pub table : Table
+  pub free : List Block
+  pub place : ℕ
+  pub entries : List Entry
+  pub is : CommitOf img buffer x rule table free place entries
+
+-- the pages drawn for it
+abbrev pub drawnFor : Table → (i : ℕ) → List Block → List Entry → Drawn
+drawnFor t i bs es = draw (spanAt t i .conts) (wantedBy (parts t es)) [] bs
+
+pub record Committed (img buffer : List ℕ) (x : Plan) (out : List ℕ) : Type 0 where
+  pub image : (r : KeyRule) (t : Table) (bs : List Block) (i : ℕ) (es : List Entry) → CommitOf img buffer x r t bs i es
+      → out ≡ apply (drawnFor t i bs es .writes ++ rewrite t i es (drawnFor t i bs es .pages) .writes) img

@@ -1,0 +1,14 @@
+pub mod Cuts
+pub mod Standing
+pub mod Fields
+pub mod Staged
+pub mod Towers
+pub mod Shapes
+pub mod Plans
+pub mod Makes
+pub mod Stages
+pub mod Counts
+pub mod Applies
+pub mod Commits
+pub mod Rewrites
+pub mod Puts

@@ -1,0 +1,46 @@
+-- A span of a table rewritten: what is asked for, and what is left.
+use Prim.Native.Nat.{ℕ, _+_, _≤_, _<_}
+use mathlib.Core.Path.{_≡_}
+use mathlib.Core.Bool.{Bool, true, false}
+use mathlib.Core.List.{List, _++_}
+use lib.ListN.{length}
+use Rattle.blockfile.specs.Bytes.{apply}
+use Rattle.blockfile.specs.Layout.{Entry, Table, Block, freeCount}
+use Rattle.blockfile.specs.Order.{KeyRule}
+use Rattle.blockfile.specs.Put.{spanAt, parts, wantedBy, rewrite}
+use Rattle.stage.specs.declared.change.Change.{Change}
+use Rattle.stage.specs.Changes.{spliced}
+use Rattle.edit.specs.Standing.{Standing}
+use Rattle.edit.specs.Makes.{Changes}
+use Rattle.edit.specs.Stages.{coming}
+use Rattle.edit.specs.Commits.{drawnFor}
+
+-- the entries of the span at place i after the change
+abbrev pub changed : Table → (i : ℕ) → Change → (k v : List ℕ) → List Entry
+changed t i c k v = spliced c (coming k v) (spanAt t i .entries)
+
+-- the change is one of the span at place i of the table
+pub record RewriteOf (img : List ℕ) (root page free : ℕ) (c : Change) (k v : List ℕ) (r : KeyRule) (t : Table) (bs : List Block) (i : ℕ) : Type 0 where
+  pub standing : Standing img r t bs
+  pub at : root ≡ t .root
+  pub change : Changes t i page c
+  pub pages : free ≡ freeCount bs
+  pub few : length (changed t i c k v) ≤ t .spanSize + 1
+
+pub record RewriteReady (img buffer : List ℕ) (root page free : ℕ) (c : Change) (k v : List ℕ) : Type 0 where
+  pub rule : KeyRule
+  pub table : Table
+  pub blocks : List Block
+  pub place : ℕ
+  pub is : RewriteOf img root page free c k v rule table blocks place
+  pub short : length k ≤ 65535
+  pub brief : length v ≤ 65535
+  pub lent : length buffer ≡ length img
+
+-- with room for the pages wanted the image is the text's, else it is as it was
+pub record Rewritten (img : List ℕ) (root page free : ℕ) (c : Change) (k v : List ℕ) (done : Bool) (out : List ℕ) : Type 0 where
+  pub yes : done ≡ true → (r : KeyRule) (t : Table) (bs : List Block) (i : ℕ) → RewriteOf img root page free c k v r t bs i
+      → (wantedBy (parts t (changed t i c k v)) ≤ length (spanAt t i .conts) + freeCount bs)
+      × (out ≡ apply (drawnFor t i bs (changed t i c k v) .writes ++ rewrite t i (changed t i c k v) (drawnFor t i bs (changed t i c k v) .pages) .writes) img)
+  pub no : done ≡ false → (r : KeyRule) (t : Table) (bs : List Block) (i : ℕ) → RewriteOf img root page free c k v r t bs i
+      → (length (spanAt t i .conts) + freeCount bs < wantedBy (parts t (changed t i c k v))) × (out ≡ img)

@@ -1,0 +1,95 @@
+// A plan carried out: its pages drawn, its spans, its tower and its counts written.
+ghost use Prim.Native.Nat.{ℕ};
+ghost use mathlib.Core.Path.{_≡_};
+ghost use Rattle.edit.specs.Commits.{CommitReady, Committed};
+ghost use Rattle.edit.specs.Applies.{DrawReady, DrewPlan, FlatReady, WroteFlat, TallReady, WroteTall};
+use crate::counts::write_counts;
+use crate::plan::Plan;
+use crate::plan::write_spans;
+use crate::tower::NewTower;
+use crate::tower::write_tower;
+use draw::draw::draw_pages;
+use draw::list::number_at;
+use draw::list::set_number;
+use links::around::towers_after;
+use links::around::towers_before;
+
+// Draws the pages that the plan wants: the list in the buffer is then the span's own page and these.
+fn draw_plan(image: &mut [u8], buffer: &mut [u8], plan: Plan)
+    requires { ⌜ DrawReady (now image) (now buffer) plan ⌝ }
+    ensures { λ _. ⌜ DrewPlan (now (image .entry)) (now (buffer .entry)) plan (now (image .exit)) (now (buffer .exit)) ⌝ }
+{
+    let total = plan.wants.conts + plan.wants.span + plan.wants.tower;
+    set_number(buffer, 0, plan.page);
+    draw_pages(image, plan.links.first, total, buffer, 1)
+}
+
+// Writes a plan without a tower.
+fn write_flat(image: &mut [u8], buffer: &mut [u8], plan: Plan)
+    requires { ⌜ FlatReady (now image) (now buffer) plan ⌝ }
+    ensures { λ _. ⌜ WroteFlat (now (image .entry)) (now (buffer .entry)) plan (now (image .exit)) ⌝ }
+{
+    write_spans(image, buffer, plan);
+    write_counts(image, plan)
+}
+
+// Writes a plan with a tower, where the towers around it are those in `before` and `after`.
+fn write_tall(
+    image: &mut [u8],
+    buffer: &mut [u8],
+    plan: Plan,
+    before: &[usize; 252],
+    after: &[usize; 252],
+)
+    requires { ⌜ TallReady (now image) (now buffer) plan (now before) ⌝ }
+    ensures { λ _. ⌜ WroteTall (now (image .entry)) (now (buffer .entry)) plan (now (before .entry)) (now (after .entry)) (now (image .exit)) ⌝ }
+{
+    let at = 1 + plan.wants.conts;
+    let span = number_at(buffer, at);
+    let page = number_at(buffer, at + plan.wants.span);
+    let new = NewTower {
+        page,
+        span,
+        height: plan.shape.height,
+        max: plan.list.max,
+        head: plan.list.head,
+        top: plan.list.top,
+    };
+    write_spans(image, buffer, plan);
+    write_tower(image, new, before, after);
+    write_counts(image, plan)
+}
+
+// Carries out a plan without a tower.
+fn commit_flat(image: &mut [u8], buffer: &mut [u8], plan: Plan)
+    requires { ⌜ CommitReady (now image) (now buffer) plan × (plan .wants .tower ≡ 0) ⌝ }
+    ensures { λ _. ⌜ Committed (now (image .entry)) (now (buffer .entry)) plan (now (image .exit)) ⌝ }
+{
+    draw_plan(image, buffer, plan);
+    write_flat(image, buffer, plan)
+}
+
+// Carries out a plan with a tower. The towers around it are read before anything is written.
+fn commit_tall(image: &mut [u8], buffer: &mut [u8], plan: Plan)
+    requires { ⌜ CommitReady (now image) (now buffer) plan × (plan .wants .tower ≡ 0 → ⊥) ⌝ }
+    ensures { λ _. ⌜ Committed (now (image .entry)) (now (buffer .entry)) plan (now (image .exit)) ⌝ }
+{
+    let mut before = [0usize; 252];
+    towers_before(image, plan.root, plan.page, &mut before);
+    let mut after = [0usize; 252];
+    towers_after(image, plan.root, &before, &mut after);
+    draw_plan(image, buffer, plan);
+    write_tall(image, buffer, plan, &before, &after)
+}
+
+// Carries out a plan whose entries are staged.
+pub fn commit(image: &mut [u8], buffer: &mut [u8], plan: Plan)
+    requires { ⌜ CommitReady (now image) (now buffer) plan ⌝ }
+    ensures { λ _. ⌜ Committed (now (image .entry)) (now (buffer .entry)) plan (now (image .exit)) ⌝ }
+{
+    if plan.wants.tower == 0 {
+        commit_flat(image, buffer, plan);
+        return;
+    }
+    commit_tall(image, buffer, plan)
+}

@@ -1,0 +1,29 @@
+// A key's value put into a table.
+ghost use Rattle.edit.specs.Puts.{PutReady, PutDone};
+use crate::rewrite::rewrite;
+use search::table::find_span;
+use stage::change::Change;
+use stage::change::find_spot;
+
+// Puts the value under the key in the table with the skip-list page `root`; `free` pages are free. Answers whether there was room;
+// else nothing changes. The scratch is as long as the image.
+pub fn put(
+    image: &mut [u8],
+    scratch: &mut [u8],
+    root: usize,
+    free: usize,
+    key: &[u8],
+    value: &[u8],
+) -> bool
+    requires { ⌜ PutReady (now image) (now scratch) root free (now key) (now value) ⌝ }
+    ensures { λ r. ⌜ PutDone (now (image .entry)) root free (now (key .entry)) (now (value .entry)) r (now (image .exit)) ⌝ }
+{
+    let page = find_span(image, root, key);
+    let spot = find_spot(image, page, key);
+    let change = Change {
+        index: spot.index,
+        drops: spot.there,
+        adds: 1,
+    };
+    rewrite(image, scratch, root, page, free, change, key, value)
+}
