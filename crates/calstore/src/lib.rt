@@ -1,11 +1,12 @@
 // The calls for C and Rust, as include/calstore.h declares them.
 ghost use mathlib.Core.List.{[]};
-ghost use Rattle.blockfile.specs.Refusals.{check, get, next, plain, refusal};
-ghost use Rattle.blockfile.specs.Calls.{checkedReply, gotReply};
+ghost use Rattle.blockfile.specs.Refusals.{check, get, next, put, plain, refusal};
+ghost use Rattle.blockfile.specs.Calls.{checkedReply, gotReply, wroteReply};
 ghost use Rattle.calstore.specs.Answers.{Bears, Answers};
 use blockfile::Checked;
 use blockfile::Got;
 use blockfile::Refusal;
+use blockfile::Wrote;
 
 // The numbers of a result; those that an answer has not are 0.
 #[repr(C)]
@@ -67,6 +68,15 @@ fn got(found: Got) -> Answer
     }
 }
 
+fn wrote(done: Wrote) -> Answer
+    ensures { λ r. ⌜ Bears (wroteReply done) r ⌝ }
+{
+    match done {
+        Wrote::Done => plain(0, 0),
+        Wrote::Refused(why) => refused(why),
+    }
+}
+
 #[no_mangle]
 pub extern "C" fn calstore_check(image: &[u8], scratch: &mut [u8]) -> Answer
     ensures { λ r. ⌜ Answers check (now (image .entry)) (now (scratch .entry)) [] r (now (image .entry)) (now (scratch .exit)) [] ⌝ }
@@ -98,4 +108,17 @@ pub extern "C" fn calstore_next(
     ensures { λ r. ⌜ Answers (next (now (name .entry)) (now (key .entry))) (now (image .entry)) (now (scratch .entry)) (now (answer .entry)) r (now (image .entry)) (now (scratch .exit)) (now (answer .exit)) ⌝ }
 {
     got(store::next(image, scratch, name, key, answer))
+}
+
+#[no_mangle]
+pub extern "C" fn calstore_put(
+    image: &mut [u8],
+    scratch: &mut [u8],
+    name: &[u8],
+    key: &[u8],
+    value: &[u8],
+) -> Answer
+    ensures { λ r. ⌜ Answers (put (now (name .entry)) (now (key .entry)) (now (value .entry))) (now (image .entry)) (now (scratch .entry)) [] r (now (image .exit)) (now (scratch .exit)) [] ⌝ }
+{
+    wrote(store::put(image, scratch, name, key, value))
 }

@@ -20,13 +20,12 @@ use Rattle.search.proofs.Readables.{table-reading}
 use Rattle.laws.proofs.Determined.{determined}
 use Rattle.store.specs.Table.{tableRows, OnTable, Entering}
 use Rattle.store.specs.Answer.{answerRows, Hands}
-use Rattle.store.proofs.Rows.{lowest-later}
-use Rattle.store.proofs.Tables.{its-map}
+use Rattle.store.proofs.Tables.{rows-left, its-map}
 
 -- ---- A call that reads: it hands out the bytes sought in a table, and writes nothing on the image
 
 pub record ReadCall (op : Op) (name : List ℕ) (legal : Bool) : Type 0 where
-  pub are : (l : Ledger) (room : ℕ) → rows l op room ≡ tableRows l name legal ++ answerRows (sought l op) room
+  pub are : (l : Ledger) (room : ℕ) → lowest (rows l op room) ≡ lowest (tableRows l name legal true ++ answerRows (sought l op) room)
   pub gives : (l : Ledger) → handed l op ≡ Option·getD (sought l op) []
   pub replies : (l : Ledger) (free : ℕ) → doneReply l free op ≡ plain 0 (length (Option·getD (sought l op) []))
   pub still : (L : Layout) → planOf L op ≡ none
@@ -51,23 +50,20 @@ module _ (name key : List ℕ) (legal : Bool) where
 -- ---- What the promise takes
 
 module _ {op : Op} {name : List ℕ} {legal : Bool} (reads : ReadCall op name legal) where
-  pub read-on : OnTable op name legal
+  abbrev pub read-on : OnTable op name legal true
   read-on = record { more = λ l. answerRows (sought l op); are = reads .are }
 
   module _ {img s out : List ℕ} {page : ℕ} (h : Entering img s name legal page out) where
     -- the rows that are left are those of the answer
-    rows-left : (room : ℕ) → refused (ledgerOf (h .layout)) op room ≡ lowest (answerRows (sought (ledgerOf (h .layout)) op) room)
-    unfolding refused
-    rows-left room =
-        let l = ledgerOf (h .layout) in
-        ap lowest (reads .are l room) ∙ lowest-later (tableRows l name legal) (answerRows (sought l op) room) (h .passed)
+    answer-left : (room : ℕ) → refused (ledgerOf (h .layout)) op room ≡ lowest (answerRows (sought (ledgerOf (h .layout)) op) room)
+    answer-left room = rows-left read-on (h .layout) room (h .passed)
 
     pub read-answers : (b : List ℕ) (r : Got) (new : List ℕ) → Hands (sought (ledgerOf (h .layout)) op) b r new → Keeps op img s b (gotReply r) img out new
     unfolding outcomeOn
     read-answers b (NotGot f) new a =
         record {
           outcome = refuse f;
-          called = accepted (h .sized) (h .enough) (h .layout) (h .well) (sym (ap (outcomeIf (h .layout) op) (rows-left (length b) ∙ a .0))) (h .clear);
+          called = accepted (h .sized) (h .enough) (h .layout) (h .well) (sym (ap (outcomeIf (h .layout) op) (answer-left (length b) ∙ a .0))) (h .clear);
           result = refl;
           image = refl;
           answer = a .1;
@@ -77,7 +73,7 @@ module _ {op : Op} {name : List ℕ} {legal : Bool} (reads : ReadCall op name le
         record {
           outcome = record { reply = plain 0 n; bytes = Option·getD (sought l op) []; writes = [] };
           called = accepted (h .sized) (h .enough) (h .layout) (h .well)
-              (rw (rows-left (length b), a .0, reads .still (h .layout), reads .replies l (freeCount (h .layout .free)), reads .gives l, a .1))
+              (rw (answer-left (length b), a .0, reads .still (h .layout), reads .replies l (freeCount (h .layout .free)), reads .gives l, a .1))
               (h .clear);
           result = refl;
           image = refl;

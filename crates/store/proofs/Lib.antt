@@ -5,3 +5,5 @@ pub mod Rows
 pub mod Tables
 pub mod Handing
 pub mod Gets
+pub mod Changes
+pub mod Puts

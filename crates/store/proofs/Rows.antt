@@ -25,3 +25,10 @@ lowest-later (x ∷ xs) ys e = go (x .0) e (lowest-later xs ys)
         → cond b (some (x .1)) (lowest (xs ++ ys)) ≡ lowest ys
     go true e more = absurd (let z : _≡_ {A = ℕ} 0 1 = cc in omega arith)
     go false e more = more e
+
+pub lowest-none : (x : Bool × Refusal) (xs : List (Bool × Refusal)) → lowest (x ∷ xs) ≡ none → (x .0 ≡ false) × (lowest xs ≡ none)
+lowest-none x xs e = go (x .0) e
+  where
+    go : (b : Bool) → cond b (some (x .1)) (lowest xs) ≡ none → (b ≡ false) × (lowest xs ≡ none)
+    go true e = absurd (let z : _≡_ {A = ℕ} 0 1 = cc in omega arith)
+    go false e = (refl, e)

@@ -7,10 +7,10 @@ use mathlib.Core.Bool.{Bool, true, false, not, _||_}
 use lib.ListN.{length}
 use Rattle.blockfile.specs.declared.Counts.{Counts}
 use Rattle.blockfile.specs.declared.Refusal.{Refusal}
-use Rattle.blockfile.specs.declared.Refusal.the-variants.{NameOrKey, NoTable}
+use Rattle.blockfile.specs.declared.Refusal.the-variants.{NameOrKey, ValueLength, NoTable}
 use Rattle.blockfile.specs.Layout.{Entry, Table, Layout, entriesOf}
 use Rattle.blockfile.specs.Order.{nameRule, find, there}
-use Rattle.blockfile.specs.Refusals.{Op, ledgerOf, refusal, mapOf, noTable, rows, lowest, refused}
+use Rattle.blockfile.specs.Refusals.{Op, ledgerOf, refusal, mapOf, noTable, lowest, refused}
 use Rattle.blockfile.specs.Answers.{refuse, outcomeIf, outcomeOn}
 use Rattle.blockfile.specs.Calls.{cleared, accepted, Keeps}
 use Rattle.laws.proofs.Middle.{find-under}
@@ -24,7 +24,7 @@ use Rattle.store.specs.declared.table.Entered.the-variants.{Refused, Fou
 use Rattle.store.specs.Open.{Opening, Opens}
 use Rattle.store.specs.Table.{tableRows, OnTable, NamedTable, Entering, Enters}
 use Rattle.store.proofs.Opens.{ends}
-use Rattle.store.proofs.Rows.{lowest-first}
+use Rattle.store.proofs.Rows.{lowest-first, lowest-later}
 
 -- ---- The table in the ledger
 
@@ -49,24 +49,43 @@ or-true : (a : Bool) → (a || true) ≡ true
 or-true true = refl
 or-true false = refl
 
-module _ (img name : List ℕ) (legal : Bool) where
-  pub bad-key : legal ≡ false → NamedTable img name legal (Refused NameOrKey)
+module _ (img name : List ℕ) (legal short : Bool) where
+  pub bad-key : legal ≡ false → NamedTable img name legal short (Refused NameOrKey)
   bad-key e = record { is = λ L w. rw (e, or-true (not (nameRule .allowed name))) }
 
-  pub bad-name : nameRule .allowed name ≡ false → NamedTable img name legal (Refused NameOrKey)
+  pub bad-name : nameRule .allowed name ≡ false → NamedTable img name legal short (Refused NameOrKey)
   bad-name e = record { is = λ L w. rw e }
 
-  module _ (ok : legal ≡ true) (good : nameRule .allowed name ≡ true) (r : Named) (n : NamedAs img name r) where
-    pub unknown : r ≡ Unknown → NamedTable img name legal (Refused NoTable)
-    unknown e = record { is = λ L w. rw (ok, good, no-table L name (n .is L w .unknown e)) }
+  module _ (ok : legal ≡ true) (good : nameRule .allowed name ≡ true) where
+    pub long-value : short ≡ false → NamedTable img name legal short (Refused ValueLength)
+    long-value e = record { is = λ L w. rw (ok, good, e) }
 
-    pub known : (page : ℕ) → r ≡ Root page → NamedTable img name legal (Found page)
-    known page e =
-        record {
-          is = λ L w.
-              let f = n .is L w .root page e in
-              (rw (ok, good, has-table L name (f .0) (f .1)), record { table = f .0; found = f .1; root = f .2 });
-        }
+    module _ (fits : short ≡ true) (r : Named) (n : NamedAs img name r) where
+      pub unknown : r ≡ Unknown → NamedTable img name legal short (Refused NoTable)
+      unknown e = record { is = λ L w. rw (ok, good, fits, no-table L name (n .is L w .unknown e)) }
+
+      pub known : (page : ℕ) → r ≡ Root page → NamedTable img name legal short (Found page)
+      known page e =
+          record {
+            is = λ L w.
+                let f = n .is L w .root page e in
+                (rw (ok, good, fits, has-table L name (f .0) (f .1)), record { table = f .0; found = f .1; root = f .2 });
+          }
+
+-- ---- What the rows of the table say of a call
+
+module _ {op : Op} {name : List ℕ} {legal short : Bool} (on : OnTable op name legal short) (L : Layout) (room : ℕ) where
+  -- one of them holds: it is the outcome
+  pub rows-refuse : (f : Refusal) → lowest (tableRows (ledgerOf L) name legal short) ≡ some f → outcomeOn L op room ≡ refuse f
+  unfolding outcomeOn refused
+  rows-refuse f e =
+      ap (outcomeIf L op) (on .are (ledgerOf L) room ∙ lowest-first (tableRows (ledgerOf L) name legal short) (on .more (ledgerOf L) room) f e)
+
+  -- none of them holds: the call's other rows are left
+  pub rows-left : lowest (tableRows (ledgerOf L) name legal short) ≡ none
+      → refused (ledgerOf L) op room ≡ lowest (on .more (ledgerOf L) room)
+  unfolding refused
+  rows-left e = on .are (ledgerOf L) room ∙ lowest-later (tableRows (ledgerOf L) name legal short) (on .more (ledgerOf L) room) e
 
 -- ---- The ways through `open_table`
 
@@ -76,13 +95,11 @@ module _ (img s name : List ℕ) (legal : Bool) where
   not-entered o out opens f e = λ op on room. subst (λ (x : Opened). Opens img s x out) e opens op room
 
   pub entered : (c : Counts) (mid out : List ℕ) → Opening img s c mid → out ≡ cleared (length img) mid
-      → (r : Entered) → NamedTable img name legal r → Enters img s name legal r out
-  unfolding outcomeOn refused
+      → (r : Entered) → NamedTable img name legal true r → Enters img s name legal r out
   entered c mid out o clear (Refused f) n = λ op on room.
-      let l = ledgerOf (o .layout) in
-      let first : lowest (rows l op room) ≡ some f
-      = ap lowest (on .are l room) ∙ lowest-first (tableRows l name legal) (on .more l room) f (n .is (o .layout) (o .well)) in
-      accepted (o .sized) (o .enough) (o .layout) (o .well) (sym (ap (outcomeIf (o .layout) op) first)) (ends (length img) s mid out (o .past) clear)
+      accepted (o .sized) (o .enough) (o .layout) (o .well)
+      (sym (rows-refuse on (o .layout) room f (n .is (o .layout) (o .well))))
+      (ends (length img) s mid out (o .past) clear)
   entered c mid out o clear (Found page) n =
       let t = n .is (o .layout) (o .well) in
       record {
@@ -99,7 +116,7 @@ module _ (img s name : List ℕ) (legal : Bool) where
 
 module _ (img s name : List ℕ) (legal : Bool) (r : Entered) (out : List ℕ) (enters : Enters img s name legal r out) where
   -- refused: the promise of every call on a table is kept
-  pub table-stops : (f : Refusal) → r ≡ Refused f → (op : Op) → OnTable op name legal → (b : List ℕ) → Keeps op img s b (refusal f) img out b
+  pub table-stops : (f : Refusal) → r ≡ Refused f → (op : Op) → OnTable op name legal true → (b : List ℕ) → Keeps op img s b (refusal f) img out b
   table-stops f e op on b =
       record {
         outcome = refuse f;

@@ -1,3 +1,4 @@
 pub mod Open
 pub mod Table
 pub mod Answer
+pub mod Change

@@ -1,8 +1,10 @@
-// Which names and keys are allowed: the tests of refusal 4.
+// Which names, keys and values are allowed: the tests of the refusals 4 and 5.
 ghost use mathlib.Core.Path.{_≡_};
-ghost use mathlib.Core.Bool.{_||_};
+ghost use mathlib.Core.Bool.{not, _||_};
 ghost use mathlib.Core.List.{List, []};
 ghost use Prim.Native.Nat.{ℕ};
+ghost use lib.ListN.{length};
+ghost use lib.Dec.{ltb};
 ghost use Rattle.blockfile.specs.Order.{within, nameRule, keyRule, same};
 use entries::key::printable_bytes;
 
@@ -41,4 +43,11 @@ pub fn is_key_or_empty(key: &[u8]) -> bool
         return true;
     }
     is_key(key)
+}
+
+// Whether the bytes can be a value.
+pub fn is_value(value: &[u8]) -> bool
+    ensures { λ r. ⌜ r ≡ not (ltb 65535 (length (now (value .entry)))) ⌝ }
+{
+    if value.len() <= 65535 { true } else { false }
 }

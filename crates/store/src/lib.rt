@@ -1,12 +1,14 @@
 // The calls on a lent image. Each is for any bytes: no call has a precondition.
 ghost use mathlib.Core.List.{[]};
 ghost use mathlib.Core.Path.{_≡_};
-ghost use Rattle.blockfile.specs.Refusals.{check, get, next, refusal};
-ghost use Rattle.blockfile.specs.Calls.{Keeps, checkedReply, gotReply};
+ghost use Rattle.blockfile.specs.Refusals.{check, get, next, put, refusal};
+ghost use Rattle.blockfile.specs.Calls.{Keeps, checkedReply, gotReply, wroteReply};
 use answer::hand_over;
 use blockfile::Checked;
 use blockfile::Got;
 use blockfile::Refusal;
+use blockfile::Wrote;
+use change::put_entry;
 use legal::is_key;
 use legal::is_key_or_empty;
 use open::Opened;
@@ -18,6 +20,7 @@ use table::Entered;
 use table::open_table;
 
 mod answer;
+mod change;
 mod legal;
 mod open;
 mod table;
@@ -52,6 +55,21 @@ pub fn next(image: &[u8], scratch: &mut [u8], name: &[u8], key: &[u8], answer: &
     match open_table(image, scratch, name, is_key_or_empty(key)) {
         Entered::Refused(why) => Got::Refused(why),
         Entered::Found(page) => hand_over(image, next_key(image, page, key), answer),
+    }
+}
+
+// Puts the value under the key in the table of the name: a new key, or a new value for one that is there.
+pub fn put(image: &mut [u8], scratch: &mut [u8], name: &[u8], key: &[u8], value: &[u8]) -> Wrote
+    ensures { λ r. ⌜ Keeps (put (now (name .entry)) (now (key .entry)) (now (value .entry))) (now (image .entry)) (now (scratch .entry)) [] (wroteReply r) (now (image .exit)) (now (scratch .exit)) [] ⌝ }
+{
+    match open(image, scratch) {
+        Opened::Refused(why) => Wrote::Refused(why),
+        Opened::Accepted(counts) => {
+            let n = image.len();
+            let wrote = put_entry(image, &mut scratch[..n], counts.free, name, key, value);
+            clear(scratch, n);
+            wrote
+        }
     }
 }
 
