@@ -168,9 +168,69 @@ pub fn sample(random: &mut Random, knobs: &Knobs) -> Sample {
 /// The layout of an image of the kind wanted.
 pub fn layout(random: &mut Random, knobs: &Knobs) -> Layout {
     let pages = random.within(knobs.pages.clone());
-    let (mut meta, mut tables) = draft_tables(random, knobs, pages - 1);
-    let used = 1 + cost(&meta) + tables.iter().map(cost).sum::<usize>();
+    let (meta, tables) = draft_tables(random, knobs, pages - 1);
+    let used = used(&meta, &tables);
     let pages = choose_pages(random, knobs, used, pages);
+    number(random, &knobs.span_sizes, pages, meta, tables)
+}
+
+/// A well-formed image with one table of exactly this many spans, each with as many keys as it can
+/// have, under a head of this max height; so many pages are free.
+pub fn full_spans(
+    random: &mut Random,
+    spans: usize,
+    span_size: u16,
+    max: usize,
+    free: usize,
+) -> Sample {
+    let knobs = Knobs::full_of_towers();
+    let names = names(random, 1);
+    let meta = draft(random, &knobs, names, true, 2 * TABLE_PAGES);
+    let height = random.within(0..=max.min(12));
+    let mut table = Table {
+        root: 0,
+        span_size,
+        head: tower(max, height),
+        spans: Vec::new(),
+    };
+    for place in 0..spans {
+        let first = place * usize::from(span_size);
+        let keys = first..first + usize::from(span_size);
+        let tower = draft_tower(random, &knobs, &table.head, place == 0);
+        let entry = |number: usize| Entry {
+            key: (2 * number as u32 + 1).to_be_bytes().to_vec(),
+            value: random.bytes(number % 3),
+        };
+        let entries: Vec<Entry> = keys.map(entry).collect();
+        table.spans.push(Span {
+            page: 0,
+            continuations: vec![0; entries::continuations(&entries)],
+            entries,
+            tower,
+        });
+    }
+    let tables = vec![table];
+    let pages = used(&meta, &tables) + free;
+    let layout = number(random, &[span_size], pages, meta, tables);
+    let mut image = garbage(random, pages);
+    encode::layout(&mut image, &layout);
+    Sample { image, layout }
+}
+
+/// How many pages are used, the superblock among them.
+fn used(meta: &Table, tables: &[Table]) -> usize {
+    1 + cost(meta) + tables.iter().map(cost).sum::<usize>()
+}
+
+/// The layout of drafted tables in an image of this many pages: every page gets its number, and the
+/// pages left are free.
+fn number(
+    random: &mut Random,
+    span_sizes: &[u16],
+    pages: usize,
+    mut meta: Table,
+    mut tables: Vec<Table>,
+) -> Layout {
     let mut unused: Vec<u32> = (3..=pages as u32).collect();
     if random.percent(85) {
         random.shuffle(&mut unused);
@@ -187,7 +247,7 @@ pub fn layout(random: &mut Random, knobs: &Knobs) -> Layout {
     Layout {
         pages: pages as u32,
         mounted: random.below(2) as u16,
-        span_size: *random.pick(&knobs.span_sizes),
+        span_size: *random.pick(span_sizes),
         meta,
         tables: names.into_iter().zip(tables).collect(),
         free: free_list(random, unused),

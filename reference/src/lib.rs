@@ -25,6 +25,7 @@ pub mod legal;
 pub mod library;
 pub mod page;
 pub mod program;
+pub mod putting;
 pub mod random;
 pub mod reading;
 pub mod request;

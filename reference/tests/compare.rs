@@ -2,7 +2,7 @@
 
 use reference::calls::Answer;
 use reference::compare::programs::{Program, TWIN};
-use reference::compare::{images, lengths, lists, present_lengths, read_lists};
+use reference::compare::{images, lengths, lists, present_lengths, put_lists, read_lists};
 use reference::entries::MAX_LENGTH;
 use reference::twin;
 
@@ -160,4 +160,24 @@ fn an_exact_buffer_that_is_refused() {
     let next = Some(next as _);
     let found = found_reading(&Program { next, ..TWIN }).expect_err("a difference");
     assert!(found.contains("number: 9"), "{found}");
+}
+
+#[test]
+fn a_last_page_that_is_not_taken() {
+    let put = |image: &mut [u8], scratch: &mut [u8], name: &[u8], key: &[u8], value: &[u8]| {
+        let mut copy = image.to_vec();
+        let answer = twin::put(&mut copy, scratch, name, key, value);
+        let left = twin::check(&copy, scratch).free;
+        if answer.number == 0 && left == 0 && copy[16..20] != image[16..20] {
+            return Answer {
+                number: 10,
+                ..Answer::default()
+            };
+        }
+        image.copy_from_slice(&copy);
+        answer
+    };
+    let put = Some(put as _);
+    let found = put_lists(&Program { put, ..TWIN }, 1, 300).expect_err("a difference");
+    assert!(found.what.contains("number: 10"), "{}", found.what);
 }

@@ -6,10 +6,14 @@
 
 #![cfg(feature = "library")]
 
+mod common;
+
 use reference::compare::cases::Source;
 use reference::compare::programs::Program;
 use reference::compare::tally::{calls_table, images_table, Tally};
-use reference::compare::{images, lengths, lists, long_lists, present_lengths, read_lists};
+use reference::compare::{
+    images, lengths, lists, long_lists, present_lengths, put_lists, read_lists,
+};
 use reference::fuzz::Failure;
 use reference::library::LIBRARY;
 use reference::reading::LONGEST;
@@ -25,6 +29,8 @@ const LISTS: u64 = 4_000;
 const LONG_LISTS: u64 = 60;
 /// How many lists of gets and nexts are run.
 const READ_LISTS: u64 = 20_000;
+/// How many lists of puts are run.
+const PUT_LISTS: u64 = 20_000;
 /// How many lengths keys have that are put and read, up to the greatest.
 const PRESENT: u64 = 2_114;
 
@@ -83,6 +89,17 @@ fn gets_and_nexts_have_the_same_outcome() {
             assert!(tally.calls[&(kind, number)] > 500, "{kind} {number}");
         }
     }
+}
+
+#[test]
+fn puts_have_the_same_outcome() {
+    let tally = in_two(1, PUT_LISTS, put_lists);
+    println!("{}", calls_table(&tally.calls));
+    for number in [0, 2, 4, 5, 6, 10] {
+        let calls = tally.calls[&(CallKind::Put, number)];
+        assert!(calls > 100, "put {number}: {calls}");
+    }
+    common::puts_reach_every_case(&tally);
 }
 
 #[test]

@@ -1,14 +1,18 @@
 //! The twin against the reference, for fixed seeds; more by `reference compare twin SEED N`.
 
+mod common;
+
 use reference::bench::cards::{self, Filling};
 use reference::compare::cases::{case, Source};
 use reference::compare::programs::{Program, REFERENCE, TWIN};
-use reference::compare::{images, lists, long_lists};
+use reference::compare::tally::Tally;
+use reference::compare::{images, lists, long_lists, put_lists};
 use reference::generate::{self, Knobs};
 use reference::page::write_u32;
 use reference::random::Random;
 use reference::request::{Call, CallKind, Request};
 use reference::rule::Rule;
+use std::thread;
 
 #[test]
 fn images_are_checked_alike() {
@@ -112,4 +116,15 @@ fn every_field_of_small_images_set_anew() {
         }
     }
     assert!(accepted > 500);
+}
+
+#[test]
+fn lists_of_puts() {
+    let halves = [1, 5_001].map(|seed| thread::spawn(move || put_lists(&TWIN, seed, 5_000)));
+    let mut tally = Tally::default();
+    for half in halves {
+        let half = half.join().expect("a tally");
+        tally.add(half.unwrap_or_else(|failure| panic!("seed {}: {}", failure.seed, failure.what)));
+    }
+    common::puts_reach_every_case(&tally);
 }

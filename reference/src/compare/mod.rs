@@ -11,12 +11,13 @@ use crate::fuzz::{Failure, CALLS};
 use crate::generate::Knobs;
 use crate::ledger::{tables_of, Ledger, Said};
 use crate::page::pages_of;
+use crate::putting;
 use crate::random::Random;
 use crate::reading;
 use crate::request::Request;
 use crate::script::{self, Script};
 use programs::{Outcome, Program, REFERENCE};
-use tally::{Called, Tally};
+use tally::{add_all, Called, Tally};
 
 /// Checks `count` images by both programs, for the seeds from `seed` on, and makes another call on
 /// each.
@@ -96,6 +97,19 @@ pub fn present_lengths(program: &Program, first: u64, count: u64) -> Result<Tall
     all_lists(program, seeds(first, count), |step| {
         reading::present((1 + STRIDE * step) as usize)
     })
+}
+
+/// Runs `count` lists of puts among gets, nexts and checks by both programs, for the seeds from
+/// `seed` on, and counts what they reach.
+pub fn put_lists(program: &Program, seed: u64, count: u64) -> Result<Tally, Failure> {
+    let mut tally = Tally::default();
+    for seed in seeds(seed, count) {
+        let (script, cases) = putting::script(seed);
+        let failure = |what| Failure { seed, what };
+        list(program, &script, &mut tally.calls).map_err(failure)?;
+        add_all(&mut tally.cases, cases);
+    }
+    Ok(tally)
 }
 
 /// `count` seeds from the first one on.

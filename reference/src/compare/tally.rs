@@ -1,6 +1,7 @@
 //! What was compared, and tables of it.
 
 use super::cases::Source;
+use crate::putting::Cases;
 use crate::request::CallKind;
 use std::collections::BTreeMap;
 use std::fmt::Display;
@@ -17,6 +18,8 @@ pub struct Tally {
     /// Images by P, with 0 for a length that no image has.
     pub sizes: BTreeMap<u32, u64>,
     pub calls: Called,
+    /// What lists of puts reached.
+    pub cases: Cases,
 }
 
 impl Tally {
@@ -25,10 +28,12 @@ impl Tally {
         add_all(&mut self.images, other.images);
         add_all(&mut self.sizes, other.sizes);
         add_all(&mut self.calls, other.calls);
+        add_all(&mut self.cases, other.cases);
     }
 }
 
-fn add_all<K: Ord>(counts: &mut BTreeMap<K, u64>, more: BTreeMap<K, u64>) {
+/// Adds what one map counts to another.
+pub(super) fn add_all<K: Ord>(counts: &mut BTreeMap<K, u64>, more: BTreeMap<K, u64>) {
     for (key, count) in more {
         *counts.entry(key).or_default() += count;
     }

@@ -3,7 +3,9 @@
 
 use reference::calls::{self, Answer};
 use reference::check::check;
+use reference::compare::tally::Tally;
 use reference::layout::{Layout, Table};
+use reference::putting;
 
 /// Writes bytes at an offset of a page.
 pub fn write(image: &mut [u8], page: usize, offset: usize, bytes: &[u8]) {
@@ -111,4 +113,17 @@ pub fn pages_changed(before: &[u8], after: &[u8]) -> Vec<usize> {
         .filter(|(_, (old, new))| old != new)
         .map(|(place, _)| place + 1)
         .collect()
+}
+
+/// Whether lists of puts reached every case, and new towers of every height that there can be, beside
+/// towers of every height up to 12.
+pub fn puts_reach_every_case(tally: &Tally) {
+    let fixed = putting::ALL.iter().map(|case| (*case).to_owned());
+    let new = (0..=putting::HIGHEST).map(putting::new_tower);
+    let beside = (1..=12).map(putting::beside);
+    for case in fixed.chain(new).chain(beside) {
+        let count = tally.cases.get(&case).copied().unwrap_or(0);
+        println!("{case:40}{count:>8}");
+        assert!(count > 0, "{case}");
+    }
 }
