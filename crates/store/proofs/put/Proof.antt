@@ -1,3 +1,4 @@
+use native.Mathlib.Omega.{arith}
 use mathlib.Core.Path.{sym, _∙_}
 use borrow.Author.Needs.{needs}
 use Rattle.store.specs.Open.{Opening}
@@ -28,7 +29,7 @@ clear-requires : tie.Need-clear-requires
 clear-requires c κs =
     let w = c .before .before .before .before .before in
     let o = opening (w .before .before .before .before) in
-    still-enough o (w .put-entry .last .1 .0) (w .put-entry .kept .1 .0 ∙ lent-long o)
+    omega (arith, still-enough o (w .put-entry .last .1 .0) (w .put-entry .kept .1 .0 ∙ lent-long o))
 
 returns : tie.Need-returns
 returns c =
