@@ -72,6 +72,18 @@ struct calstore_answer calstore_next(const uint8_t *image, size_t image_len, uin
                                      const uint8_t *name, size_t name_len, const uint8_t *key, size_t key_len,
                                      uint8_t *answer, size_t answer_len);
 
+/* Puts a value under a key in a table: a key that is there gets the value in place of its own, any other key is added.
+ *   image, image_len      the card's image; it changes only where number is 0, with a refusal all of its bytes stay
+ *   scratch, scratch_len  memory for the call's own work
+ *   name, name_len        the table's name
+ *   key, key_len          the key
+ *   value, value_len      the value, which may be empty
+ * length is 0. After a put that is done the image is again one that check accepts.
+ * Refusals: 1, 2, 3, 4, 5, 6, 10. */
+struct calstore_answer calstore_put(uint8_t *image, size_t image_len, uint8_t *scratch, size_t scratch_len,
+                                    const uint8_t *name, size_t name_len, const uint8_t *key, size_t key_len,
+                                    const uint8_t *value, size_t value_len);
+
 #ifdef __cplusplus
 }
 #endif
