@@ -13,6 +13,7 @@ use crate::page::{continuation, MAX_NUMBERS, PAGE};
 use crate::random::Random;
 use crate::request::{Call, Request};
 use crate::script::{self, Script, Trend};
+use std::cmp::Ordering;
 use std::collections::{BTreeMap, BTreeSet};
 
 /// How many calls a list has.
@@ -306,32 +307,36 @@ fn of_entries(table: &Table, key: &[u8]) -> Vec<String> {
 fn of_spans(old: &Table, new: &Table, key: &[u8]) -> Vec<String> {
     let place = old.target(key);
     let (was, is) = (&old.spans[place], &new.spans[place]);
-    let size = old.span_size;
     if old.value(key).is_some() {
         let pages = match is.continuations.len().cmp(&was.continuations.len()) {
-            std::cmp::Ordering::Less => "fewer",
-            std::cmp::Ordering::Equal => "as many",
-            std::cmp::Ordering::Greater => "more",
+            Ordering::Less => "fewer",
+            Ordering::Equal => "as many",
+            Ordering::Greater => "more",
         };
         let on = format!("value replaced on {pages} pages");
         return vec!["value replaced".to_owned(), on];
     }
-    if new.spans.len() == old.spans.len() {
-        let mut cases = vec![format!("key joined a span of {size}")];
-        if was.entries.is_empty() {
-            cases.push("key joined an empty span".to_owned());
-        }
-        return cases;
+    if new.spans.len() > old.spans.len() {
+        return of_split(old, new, place);
     }
-    let at_end = place + 1 == old.spans.len();
-    let added = &new.spans[place + 1];
+    let mut cases = vec![format!("key joined a span of {}", old.span_size)];
+    if was.entries.is_empty() {
+        cases.push("key joined an empty span".to_owned());
+    }
+    cases
+}
+
+/// The split of the span at this place: where it was, its pages and its new tower.
+fn of_split(old: &Table, new: &Table, place: usize) -> Vec<String> {
+    let (was, is, added) = (&old.spans[place], &new.spans[place], &new.spans[place + 1]);
+    let which = match place + 1 == old.spans.len() {
+        true => "the last",
+        false => "another",
+    };
     let height = added.tower.map_or(0, |tower| usize::from(tower.height));
     let mut cases = vec![
-        format!("split of a span of {size}"),
-        format!(
-            "split of {} span",
-            if at_end { "the last" } else { "another" }
-        ),
+        format!("split of a span of {}", old.span_size),
+        format!("split of {which} span"),
         format!("head of max height {}", old.head.max),
         new_tower(height),
     ];
