@@ -1,17 +1,17 @@
 -- What is written where a span is rewritten is what the text writes.
-use Prim.Native.Nat.{ℕ, zero, suc, _+_, _*_, _-_, _≤_, _<_, min}
+use Prim.Native.Nat.{ℕ, zero, suc, _+_, _*_, _≤_, min}
 use native.Mathlib.Omega.{arith}
 use mathlib.Core.Path.{_≡_, refl, ap, ap₂, sym, _∙_, subst}
-use mathlib.Core.List.{List, [], _∷_, _++_, append-assoc}
+use mathlib.Core.List.{List, [], _∷_, _++_}
 use lib.ListN.{length, length-append}
 use lib.Seq.{sets}
 use Rattle.blockfile.specs.Bytes.{Write, be32, word32, apply, Every, gather, firstOf}
-use Rattle.blockfile.specs.Layout.{Entry, Table, Block, columns, towersOf, entriesOf, reached}
+use Rattle.blockfile.specs.Layout.{Entry, Table, Block, columns, towersOf, entriesOf}
 use Rattle.blockfile.specs.Order.{KeyRule}
 use Rattle.blockfile.specs.Fields.{Numbers}
 use Rattle.blockfile.specs.WellFormed.{TableOk}
 use Rattle.blockfile.specs.Free.{Drawn}
-use Rattle.blockfile.specs.Put.{Parts, parts, spanWanted, towerWanted, wantedBy, Shared, share, spanAt, newColumn, newColumns, tableAfter, rewrite}
+use Rattle.blockfile.specs.Put.{Parts, parts, spanWanted, wantedBy, Shared, share, spanAt, newColumn, newColumns, tableAfter, rewrite}
 use Rattle.laws.proofs.Writes.{apply-append, length-apply}
 use Rattle.laws.proofs.Positions.{reached-one}
 use Rattle.laws.proofs.Places.{entriesBefore, entriesAfter, place-entries}
@@ -21,17 +21,16 @@ use Rattle.laws.proofs.TableTowers.{split-levels}
 use Rattle.laws.proofs.TablePut.{with-entries}
 use Rattle.laws.proofs.TableWrites.{shared-tower}
 use Rattle.entries.specs.Places.{IsPage}
-use Rattle.draw.specs.Hands.{Drawable, drawn}
 use Rattle.draw.specs.Writing.{PageOf}
 use Rattle.search.specs.Tables.{Reading}
-use Rattle.links.specs.Levels.{Before, After, SpanAt, SpanIn, BeforeIn, HasBefore, AfterIn}
+use Rattle.links.specs.Levels.{Before, SpanAt, SpanIn, BeforeIn, HasBefore, AfterIn}
 use Rattle.links.proofs.Relinked.{before-linkable}
 use Rattle.edit.specs.declared.plan.Plan.{Plan}
-use Rattle.edit.specs.Cuts.{Cut, spanWrites, towerWrites, countsAt}
+use Rattle.edit.specs.Cuts.{spanWrites, towerWrites, countsAt}
 use Rattle.edit.specs.Plans.{SpansOf}
 use Rattle.edit.specs.Counts.{sizeOf, spansOf, levelsOf, countsOf}
 use Rattle.edit.specs.Applies.{DrewPlan, FlatReady, WroteFlat, TowerOn, TallReady, riseFor, WroteTall}
-use Rattle.edit.specs.Commits.{CommitOf, drawnFor, CommitReady, Committed}
+use Rattle.edit.specs.Commits.{CommitOf, drawnFor, Committed}
 use Rattle.edit.proofs.Cuts.{cutAt, riseAt, Around, rewriting-coded}
 use Rattle.edit.proofs.Stands.{past-pages, head-borne}
 use Rattle.edit.proofs.Risings.{page-of}

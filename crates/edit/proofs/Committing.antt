@@ -1,41 +1,39 @@
 -- A span of a table rewritten: from the table to what drawing and writing ask for, and from what they leave to the text.
-use Prim.Native.Nat.{ℕ, zero, suc, _+_, _*_, _-_, _≤_, _<_, min}
+use Prim.Native.Nat.{ℕ, suc, _+_, _*_, _≤_, _<_}
 use native.Mathlib.Omega.{arith}
 use mathlib.Core.Path.{_≡_, refl, ap, ap₂, sym, _∙_, subst}
-use mathlib.Core.List.{List, [], _∷_, _++_, append-nil, append-assoc, map}
+use mathlib.Core.List.{List, [], _∷_, _++_, append-nil}
 use lib.ListN.{length, take, drop, length-append, length-map}
 use lib.Seq.{sets, length-sets, take-all, take-at, drop-at}
-use Rattle.blockfile.specs.Bytes.{pg, word32, apply, Every, gather, firstOf}
-use Rattle.blockfile.specs.Layout.{Entry, Span, Column, Table, Block, columns, spansOf, towersOf, entriesOf, entriesFrom, entriesEnd, reached, freeCount}
+use Rattle.blockfile.specs.Bytes.{word32, apply, Every, gather}
+use Rattle.blockfile.specs.Layout.{Entry, Span, Column, Table, Block, columns, spansOf, towersOf, entriesOf, reached, freeCount}
 use Rattle.blockfile.specs.Order.{KeyRule}
 use Rattle.blockfile.specs.Fields.{Numbers}
 use Rattle.blockfile.specs.Free.{Drawn, draw}
-use Rattle.blockfile.specs.Put.{Parts, parts, contsWanted, spanWanted, towerWanted, wantedBy, Shared, share, spanAt}
+use Rattle.blockfile.specs.Put.{Parts, parts, spanWanted, wantedBy, Shared, share, spanAt}
 use Rattle.blockfile.proofs.Every.{every-left, every-right}
-use Rattle.laws.proofs.State.{Shows}
 use Rattle.laws.proofs.Steps.{Holds}
-use Rattle.laws.proofs.Opens.{held, allPieces, to-pieces}
+use Rattle.laws.proofs.Opens.{allPieces, to-pieces}
 use Rattle.laws.proofs.Writes.{length-apply}
 use Rattle.laws.proofs.Lists.{sets-append}
 use Rattle.laws.proofs.Numbers.{length-word32}
-use Rattle.laws.proofs.Positions.{reached-one}
 use Rattle.laws.proofs.Written.{numbers-left}
 use Rattle.laws.proofs.Encodes.{length-numbers32}
 use Rattle.laws.proofs.Draws.{few-drawn, length-drawn, drawn-shows}
-use Rattle.laws.proofs.Splits.{parts-whole, share-all, share-conts, share-span, share-tower}
+use Rattle.laws.proofs.Splits.{parts-whole, share-all, share-conts, share-span}
 use Rattle.laws.proofs.SpanLinks.{firstPage, spansPast}
 use Rattle.laws.proofs.Places.{entriesBefore, entriesAfter, place-entries}
 use Rattle.laws.proofs.Fitting.{many-entries, many-towers}
 use Rattle.laws.proofs.DrawnRewrites.{let-go}
 use Rattle.entries.specs.Places.{IsPage}
-use Rattle.draw.specs.Hands.{InHand, Drawable, drawn}
+use Rattle.draw.specs.Hands.{InHand, Drawable}
 use Rattle.draw.specs.Writing.{PageOf}
 use Rattle.draw.proofs.Hands.{hand-pages, hand-few}
 use Rattle.draw.proofs.Listings.{stored-stand}
 use Rattle.edit.specs.declared.plan.Plan.{Plan}
 use Rattle.edit.specs.Standing.{Standing}
 use Rattle.edit.specs.Staged.{Staged}
-use Rattle.edit.specs.Plans.{StayOf, MovedOf, SplitOf, SpansOf, SpansReady}
+use Rattle.edit.specs.Plans.{StayOf, MovedOf, SpansOf, SpansReady}
 use Rattle.edit.specs.Counts.{CountsReady}
 use Rattle.edit.specs.Makes.{PlanOf}
 use Rattle.edit.specs.Applies.{totalOf, DrawReady}

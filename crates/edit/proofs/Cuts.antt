@@ -8,9 +8,9 @@ use lib.ListN.{length, getD, take, drop}
 use lib.Dec.{ltb}
 use borrow.Author.Tests.{lt-ltb, le-ltb, ltb-true, ltb-false}
 use Rattle.blockfile.specs.Bytes.{Write, on, word16, word32, Every, gather, from, firstOf}
-use Rattle.blockfile.specs.Layout.{Entry, Span, Tower, Column, Table, columns, spansOf, towersOf, entriesOf}
-use Rattle.blockfile.specs.Fields.{LinkedSpan, LinkedTower}
-use Rattle.blockfile.specs.WellFormed.{nextAt, skipListOf}
+use Rattle.blockfile.specs.Layout.{Span, Tower, Column, Table, columns, spansOf, towersOf, entriesOf}
+use Rattle.blockfile.specs.Fields.{LinkedTower}
+use Rattle.blockfile.specs.WellFormed.{nextAt}
 use Rattle.blockfile.specs.Encode.{wholeSpan, wholeTower, counts}
 use Rattle.blockfile.specs.Put.{Parts, Shared, spanAt, newColumn, newColumns, tableAfter, prevLink, lastAt, raise, countsOn, rewriting}
 use Rattle.laws.proofs.SpanLinks.{linked, firstPage, lastPage, linkBetween, newSpan, spansTo, spansPast}

@@ -1,11 +1,8 @@
 -- The fields that the code reads are those of the table and of the span.
-use Prim.Native.Nat.{ℕ, _+_, _*_, _≤_, _<_}
-use native.Mathlib.Omega.{arith}
+use Prim.Native.Nat.{ℕ, _+_, _≤_}
 use mathlib.Core.Path.{_≡_, ap, sym, _∙_, subst}
 use mathlib.Core.List.{List}
-use lib.ListN.{length}
 use Rattle.blockfile.specs.Bytes.{pg, be16, be32}
-use Rattle.blockfile.specs.Layout.{Table}
 use Rattle.blockfile.specs.Fields.{IsSkipList, IsSpan}
 use Rattle.blockfile.specs.WellFormed.{skipListOf}
 use Rattle.pages.specs.Places.{Inside}
@@ -13,7 +10,7 @@ use Rattle.entries.specs.Places.{IsPage}
 use Rattle.search.specs.Tables.{Reading}
 use Rattle.edit.specs.declared.fields.SkipList.{SkipList}
 use Rattle.edit.specs.declared.fields.Links.{Links}
-use Rattle.edit.specs.Fields.{ListOf, ListRead, LinkedOn, LinksOf, LinksRead}
+use Rattle.edit.specs.Fields.{ListOf, LinksRead}
 use Rattle.edit.proofs.Stands.{head-borne}
 
 pub links-read : (img : List ℕ) (page : ℕ) (x : Links)

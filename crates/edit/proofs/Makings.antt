@@ -1,25 +1,24 @@
 -- A plan has what the table says.
-use Prim.Native.Nat.{ℕ, _≤_, _<_}
+use Prim.Native.Nat.{ℕ}
 use native.Mathlib.Omega.{arith}
 use mathlib.Core.Path.{_≡_, refl, ap, sym, _∙_, subst}
 use mathlib.Core.List.{List, []}
 use lib.ListN.{length, replicate, length-replicate}
-use Rattle.blockfile.specs.Layout.{Entry, Span, Table, columns}
+use Rattle.blockfile.specs.Layout.{Entry, Span}
 use Rattle.blockfile.specs.Put.{spanAt, parts}
 use Rattle.search.specs.Spans.{SpanOn}
 use Rattle.search.specs.Tables.{Reading}
 use Rattle.search.proofs.Tables.{reading-span, reading-at}
 use Rattle.stage.specs.declared.change.Change.{Change}
 use Rattle.stage.specs.Changes.{spliced, Fits}
-use Rattle.stage.specs.Parts.{Sized}
 use Rattle.edit.specs.declared.fields.SkipList.{SkipList}
 use Rattle.edit.specs.declared.fields.Links.{Links}
 use Rattle.edit.specs.declared.shape.Shape.{Shape}
 use Rattle.edit.specs.declared.shape.Wants.{Wants}
 use Rattle.edit.specs.Standing.{hereAt}
-use Rattle.edit.specs.Fields.{ListOf, ListRead, LinkedOn, LinksOf, LinksRead}
+use Rattle.edit.specs.Fields.{ListRead, LinkedOn, LinksOf, LinksRead}
 use Rattle.edit.specs.Shapes.{ShapeOf, ShapeReady, ShapeFor, Shaped, WantsFor}
-use Rattle.edit.specs.Makes.{Changes, PlanReady, PlanOf, PlanFor}
+use Rattle.edit.specs.Makes.{Changes, PlanReady, PlanFor}
 use Rattle.edit.proofs.Stands.{span-borne}
 
 module _ {img : List ℕ} {root page : ℕ} (t : Reading img root) (i : ℕ) {c : Change} (h : Changes (t .table) i page c) where

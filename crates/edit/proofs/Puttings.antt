@@ -1,7 +1,7 @@
 -- The ways through `put`: the change of its spot is the text's plan.
 use Prim.Native.Nat.{ℕ, _+_, _≤_, _<_}
 use native.Mathlib.Omega.{arith}
-use mathlib.Core.Path.{_≡_, refl, ap, sym, _∙_, subst}
+use mathlib.Core.Path.{_≡_, ap, sym, subst}
 use mathlib.Core.Bool.{Bool, true, false}
 use mathlib.Core.List.{List, [], _++_}
 use lib.ListN.{length}
@@ -24,7 +24,6 @@ use Rattle.search.proofs.Tables.{reading-span, reading-at, reading-rule}
 use Rattle.stage.specs.declared.change.Change.{Change}
 use Rattle.stage.specs.declared.change.Spot.{Spot}
 use Rattle.stage.specs.Changes.{Spotted, SpottedOn}
-use Rattle.edit.specs.Makes.{Changes}
 use Rattle.edit.specs.Rewrites.{changed, RewriteOf, RewriteReady, Rewritten}
 use Rattle.edit.specs.Puts.{TableAt, PutReady, PutDone}
 use Rattle.edit.proofs.Stands.{table-standing}
@@ -95,9 +94,11 @@ module _ {img : List ℕ} {root free : ℕ} {L : Layout} {name : List ℕ} {t : 
         pub put-refused : r ≡ false → (lacks L (putPlan L name t k v) ≡ true) × (out ≡ img)
         unfolding lacks putPlan rewritePlan
         put-refused e =
-            let n = w .no e (keyRule name) t (L .free) place (rewrite-of v) in
-            (lt-ltb (length (spanAt t place .conts) + freeCount (L .free)) (wantedBy (parts t es))
-            (subst (λ (fs : List Entry). length (spanAt t place .conts) + freeCount (L .free) < wantedBy (parts t fs)) (inserted v) (n .0)), n .1)
+            let n = w .no e (keyRule name) t (L .free) place (rewrite-of v) in (
+              lt-ltb (length (spanAt t place .conts) + freeCount (L .free)) (wantedBy (parts t es))
+                  (subst (λ (fs : List Entry). length (spanAt t place .conts) + freeCount (L .free) < wantedBy (parts t fs)) (inserted v) (n .0)),
+              n .1,
+            )
 
 module _ {img scratch : List ℕ} {root free : ℕ} {k v : List ℕ} (h : PutReady img scratch root free k v) (page : ℕ) (f : TargetIn img root k page) where
   pub spot-ready : SpanOn img page

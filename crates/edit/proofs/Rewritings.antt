@@ -1,14 +1,13 @@
 -- The ways through `rewrite`.
-use Prim.Native.Nat.{ℕ, zero, suc, _+_, _*_, _-_, _/_, _≤_, _<_}
+use Prim.Native.Nat.{ℕ, _+_, _*_, _/_, _≤_, _<_}
 use native.Mathlib.Omega.{arith}
 use mathlib.Core.Path.{_≡_, refl, ap, sym, _∙_, subst}
 use mathlib.Core.Bool.{true, false, true≢false}
-use mathlib.Core.List.{List, [], _∷_, _++_}
+use mathlib.Core.List.{List, [], _∷_}
 use lib.ListN.{length, take, drop, length-append}
-use Rattle.blockfile.specs.Bytes.{apply}
-use Rattle.blockfile.specs.Layout.{Entry, Table, Block, columns, entriesFrom, entriesEnd, reached, freeCount}
+use Rattle.blockfile.specs.Layout.{Entry, Table, Block, entriesFrom, entriesEnd, reached, freeCount}
 use Rattle.blockfile.specs.Order.{KeyRule}
-use Rattle.blockfile.specs.Put.{Parts, parts, contsWanted, spanWanted, wantedBy, spanAt}
+use Rattle.blockfile.specs.Put.{Parts, parts, spanWanted, spanAt}
 use Rattle.laws.proofs.Positions.{reached-one}
 use Rattle.laws.proofs.Splits.{parts-whole}
 use Rattle.search.specs.Spans.{SpanOn}
@@ -19,9 +18,9 @@ use Rattle.stage.proofs.Splices.{length-spliced}
 use Rattle.edit.specs.declared.plan.Plan.{Plan}
 use Rattle.edit.specs.Shapes.{ContsReady, ContsCounted}
 use Rattle.edit.specs.Makes.{Changes, PlanReady, PlanOf, PlanFor}
-use Rattle.edit.specs.Stages.{coming, movedFrom, Staying, PartsFor, PartsReady, PartsIn, PartsStaged}
+use Rattle.edit.specs.Stages.{coming, PartsFor, PartsReady, PartsIn, PartsStaged}
 use Rattle.edit.specs.Applies.{totalOf}
-use Rattle.edit.specs.Commits.{CommitOf, CommitReady, Committed}
+use Rattle.edit.specs.Commits.{CommitOf, Committed}
 use Rattle.edit.specs.Rewrites.{changed, RewriteOf, RewriteReady, Rewritten}
 use Rattle.edit.proofs.Stands.{columns-few}
 use Rattle.edit.proofs.Makings.{span-on, entries-on, conts-on, fits-on}

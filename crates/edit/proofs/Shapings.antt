@@ -1,5 +1,5 @@
 -- The shape of a span's entries after a change is that of the text's parts, and wants the pages that these want.
-use Prim.Native.Nat.{ℕ, zero, suc, _+_, _-_, _/_, _≤_, _<_, min}
+use Prim.Native.Nat.{ℕ, _+_, _-_, _/_, _≤_, _<_, min}
 use native.Mathlib.Omega.{arith}
 use mathlib.Core.Path.{_≡_, refl, ap, ap₂, sym, _∙_, subst}
 use mathlib.Core.List.{List, [], _∷_, _++_, append-nil}
@@ -19,7 +19,7 @@ use Rattle.stage.proofs.Splices.{length-spliced}
 use Rattle.edit.specs.declared.fields.SkipList.{SkipList}
 use Rattle.edit.specs.declared.shape.Shape.{Shape}
 use Rattle.edit.specs.declared.shape.Wants.{Wants}
-use Rattle.edit.specs.Shapes.{ContsReady, ContsCounted, ShapeOf, ShapeReady, ShapeFor, Shaped, NewPages, WantsOf, WantsFor}
+use Rattle.edit.specs.Shapes.{ContsReady, ContsCounted, ShapeOf, ShapeReady, ShapeFor, Shaped, NewPages, WantsFor}
 
 -- where a stream ends says how many pages it reaches
 pages-reached : (n : ℕ) (es : List Entry) → n ≡ entriesEnd entriesFrom es → (n + 1015) / 1016 ≡ reached es

@@ -1,13 +1,13 @@
 -- A span in a buffer, written: its header stored before its entries makes the stream that the text writes.
-use Prim.Native.Nat.{ℕ, zero, suc, _+_, _*_, _-_, _/_, _%_, _≤_, _<_}
+use Prim.Native.Nat.{ℕ, suc, _+_, _*_, _-_, _/_, _%_, _≤_, _<_}
 use native.Mathlib.Omega.{arith}
-use mathlib.Core.Path.{_≡_, refl, ap, sym, _∙_, subst}
+use mathlib.Core.Path.{_≡_, refl, ap, sym, _∙_}
 use mathlib.Core.Logic.{inl}
 use mathlib.Core.List.{List, [], _∷_, _++_, append-assoc}
 use lib.ListN.{length, take, drop, set, length-append, length-take, length-drop}
 use lib.Seq.{sets, sets-eq, length-sets, drop-set-lt, take-take, take-at, drop-drop, take-add, take-append-seam, drop-append-seam, drop-at}
 use Rattle.blockfile.specs.Marks.{spanMark}
-use Rattle.blockfile.specs.Bytes.{Write, word16, word32, apply, Every, firstOf}
+use Rattle.blockfile.specs.Bytes.{Write, word16, word32, apply, firstOf}
 use Rattle.blockfile.specs.Layout.{Entry, entriesFrom, entriesEnd, reached}
 use Rattle.blockfile.specs.Fields.{Numbers}
 use Rattle.blockfile.specs.Encode.{entriesBytes, streamPages, wholeSpan}
@@ -16,9 +16,9 @@ use Rattle.laws.proofs.Numbers.{be32-agree, length-word16, length-word32}
 use Rattle.laws.proofs.Positions.{entries-after, reached-one}
 use Rattle.laws.proofs.Encodes.{length-entries}
 use Rattle.laws.proofs.Written.{drop-take}
-use Rattle.draw.specs.Writing.{PageOf, Writable, WroteChain}
+use Rattle.draw.specs.Writing.{Writable, WroteChain}
 use Rattle.edit.specs.declared.span.Part.{Part}
-use Rattle.edit.specs.Staged.{streamIn, header, Staged, PartOf, PartReady, spanOf, WrotePart}
+use Rattle.edit.specs.Staged.{streamIn, header, Staged, PartOf, spanOf}
 
 -- two numbers of two bytes are one of four
 two-numbers : (x y : ℕ) → y < 65536 → word32 (x * 65536 + y) ≡ word16 x ++ word16 y

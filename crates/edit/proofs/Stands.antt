@@ -1,22 +1,22 @@
 -- The metaindex and every named table of a well-formed image can be changed: what drawing and writing ask for.
-use Prim.Native.Nat.{ℕ, suc, _<_, _≤_}
+use Prim.Native.Nat.{ℕ, _<_, _≤_}
 use native.Mathlib.Omega.{arith}
-use mathlib.Core.Path.{_≡_, refl, ap, sym, _∙_, subst}
+use mathlib.Core.Path.{_≡_, ap, _∙_, subst}
 use mathlib.Core.Option.{Option, some}
 use mathlib.Core.List.{List, [], _∷_, _++_, map}
-use lib.ListN.{length, drop, length-append, length-map}
-use Rattle.blockfile.specs.Bytes.{pg, Every, from}
+use lib.ListN.{length, length-append, length-map}
+use Rattle.blockfile.specs.Bytes.{Every, from}
 use Rattle.blockfile.specs.Layout.{Span, Column, Table, Block, Layout, columns, spansOf, towersOf}
-use Rattle.blockfile.specs.Order.{KeyRule, nameRule, keyRule, Rising, find}
-use Rattle.blockfile.specs.Fields.{LinkedSpan, LinkedTower}
-use Rattle.blockfile.specs.WellFormed.{Piece, span, tower, WellFormed, pagesOf, skipListOf, spansIn, towersIn, nextAt}
+use Rattle.blockfile.specs.Order.{KeyRule, nameRule, keyRule, find}
+use Rattle.blockfile.specs.Fields.{LinkedTower}
+use Rattle.blockfile.specs.WellFormed.{Piece, span, tower, WellFormed, skipListOf, spansIn, towersIn, nextAt}
 use Rattle.blockfile.specs.Put.{spanAt}
-use Rattle.laws.proofs.State.{Held, Shows, heldBy}
+use Rattle.laws.proofs.State.{Shows, heldBy}
 use Rattle.laws.proofs.Steps.{Holds}
 use Rattle.laws.proofs.SpanLinks.{linkBetween, spansTo, spansPast, spans-before, link-between, length-between}
 use Rattle.laws.proofs.Inside.{spans-few}
-use Rattle.laws.proofs.Opens.{opens, held, thingPieces, allPieces, to-pieces}
-use Rattle.laws.proofs.Spots.{Around, among, tablesHeld, surrounds, held-at, values, inOption, Spot, spot}
+use Rattle.laws.proofs.Opens.{opens, thingPieces, allPieces, to-pieces}
+use Rattle.laws.proofs.Spots.{Around, tablesHeld, surrounds, held-at, values, inOption, Spot, spot}
 use Rattle.laws.proofs.TableCreate.{names-rising}
 use Rattle.laws.proofs.Rewrites.{spansLeft, spansRight}
 use Rattle.laws.proofs.DrawnRewrites.{let-go}

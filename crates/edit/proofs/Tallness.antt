@@ -1,20 +1,20 @@
 -- A plan with a tower written.
-use Prim.Native.Nat.{ℕ, _+_, _*_, _≤_, _<_}
+use Prim.Native.Nat.{ℕ, _+_, _*_}
 use native.Mathlib.Omega.{arith}
 use mathlib.Core.Path.{_≡_, refl, ap, sym, _∙_}
 use mathlib.Core.List.{List, [], _∷_, _++_}
 use lib.ListN.{length}
-use Rattle.blockfile.specs.Bytes.{Write, be32, apply}
+use Rattle.blockfile.specs.Bytes.{be32, apply}
 use Rattle.laws.proofs.Writes.{apply-append}
 use Rattle.entries.specs.Places.{IsPage}
 use Rattle.pages.specs.Places.{Inside}
 use Rattle.edit.specs.declared.plan.Plan.{Plan}
 use Rattle.edit.specs.declared.tower.NewTower.{NewTower}
-use Rattle.edit.specs.Cuts.{Cut, spanWrites, towerWrites}
+use Rattle.edit.specs.Cuts.{spanWrites, towerWrites}
 use Rattle.edit.specs.Towers.{riseOf, TowerReady}
-use Rattle.edit.specs.Plans.{SpansOf, WroteSpans}
+use Rattle.edit.specs.Plans.{WroteSpans}
 use Rattle.edit.specs.Counts.{countsOf, CountsReady}
-use Rattle.edit.specs.Applies.{TowerOn, TallReady, riseFor, WroteTall}
+use Rattle.edit.specs.Applies.{TallReady, riseFor, WroteTall}
 use Rattle.edit.proofs.Risings.{page-of, linkable-in}
 
 -- the tower that the plan has, with these pages

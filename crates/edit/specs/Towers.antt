@@ -1,7 +1,6 @@
 -- A new tower, as the code has it.
-use Prim.Native.Nat.{ℕ, _≤_}
+use Prim.Native.Nat.{ℕ}
 use mathlib.Core.List.{List}
-use lib.ListN.{length}
 use Rattle.entries.specs.Places.{IsPage}
 use Rattle.links.specs.Links.{Linkable}
 use Rattle.edit.specs.declared.tower.NewTower.{NewTower}

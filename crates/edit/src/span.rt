@@ -44,6 +44,13 @@ pub fn write_span(image: &mut [u8], buffer: &mut [u8], part: Part)
     requires { ⌜ PartReady (now image) (now buffer) part ⌝ }
     ensures { λ _. ⌜ WrotePart (now (image .entry)) (now (buffer .entry)) part (now (image .exit)) (now (buffer .exit)) ⌝ }
 {
-    put_header(buffer, part.word, part.prev, part.next, part.most, part.size);
+    put_header(
+        buffer,
+        part.word,
+        part.prev,
+        part.next,
+        part.most,
+        part.size,
+    );
     write_stream(image, buffer, part.at, part.count, 4 * part.word, part.end)
 }

@@ -47,7 +47,15 @@ fn stage_moved(
     let from = 4 * (plan.base + 254 * (1 + plan.wants.conts));
     let end = from + plan.shape.moved;
     let count = plan.shape.entries - plan.shape.half;
-    stage(image, cursor, change, key, value, count, &mut buffer[from..end]);
+    stage(
+        image,
+        cursor,
+        change,
+        key,
+        value,
+        count,
+        &mut buffer[from..end],
+    );
 }
 
 // The entries of the plan, in the streams of its spans.

@@ -1,21 +1,18 @@
 -- What put and remove write of towers is the text's, with the levels read from the image before the call.
-use Prim.Native.Nat.{ℕ, suc, _+_, _*_, _≤_, _<_, min}
+use Prim.Native.Nat.{ℕ, suc, _+_, _*_, _≤_, _<_}
 use native.Mathlib.Omega.{arith}
-use native.Mathlib.Numerals.{add-one}
 use mathlib.Core.Path.{_≡_, refl, ap, ap₂, sym, _∙_}
-use mathlib.Core.Bool.{Bool, cond}
 use mathlib.Core.List.{List, [], _∷_, _++_}
 use lib.ListN.{length, getD, take, drop}
-use borrow.Author.Tests.{lt-ltb}
 use Rattle.blockfile.specs.Bytes.{on, word32, write, apply, gather}
 use Rattle.blockfile.specs.Layout.{Tower, Column, Table, columns, towersOf, entriesOf}
-use Rattle.blockfile.specs.WellFormed.{nextAt, linkTowers, towersIn, skipListOf}
+use Rattle.blockfile.specs.WellFormed.{nextAt, towersIn, skipListOf}
 use Rattle.blockfile.specs.Encode.{wholeTower, counts, wholeSkipList}
-use Rattle.blockfile.specs.Put.{Parts, Shared, newColumn, newColumns, tableAfter, countsOn, lastAt, relink}
+use Rattle.blockfile.specs.Put.{countsOn, lastAt, relink}
 use Rattle.blockfile.specs.Remove.{without}
 use Rattle.blockfile.specs.Create.{newTable}
-use Rattle.laws.proofs.TowerLinks.{seatsOf, seated, linkSeats, seated-towers, map-from}
-use Rattle.laws.proofs.TableTowers.{head-after, seats-after, behind-after, tower-written, take-rest, behind-gone}
+use Rattle.laws.proofs.TowerLinks.{map-from}
+use Rattle.laws.proofs.TableTowers.{take-rest, behind-gone}
 use Rattle.entries.specs.Places.{IsPage}
 use Rattle.search.specs.Tables.{Reading}
 use Rattle.links.specs.Links.{linkWrites, Linkable, levelsBelow, towerAs, skipListAs}
@@ -51,40 +48,6 @@ before-linkable {img} t j h {levels} few b now e =
   where
     page : (l : ℕ) → l < 252 → IsPage now (getD levels l 0)
     page l k = let p : IsPage img (getD levels l 0) = before-page t b l k in record { low = p .low; high = omega (arith, p .high) }
-
--- ---- Put, where a span is split and the new one, on page q, gets a tower on page n
-
-module _ (t : Table) (i : ℕ) (p : Parts) (s : Shared) (inside : i < length (columns t)) (few : p .height ≤ 252) (q n : ℕ) (qs ns : List ℕ) (a : s .span ≡ q ∷ qs) (b : s .tower ≡ n ∷ ns) where
-  new : newColumns t p s ≡ newColumn t p (q ∷ qs) (n ∷ ns)
-  new = ap₂ (newColumn t p) a b
-
-  before-split : {before : List ℕ} → Before t (suc i) before → Before (tableAfter t i p s) (suc i) before
-  before-split h =
-      before-as i (ap (λ (w : Tower). w .page) (head-after t p s i))
-      (seated-towers (take i (tableAfter t i p s .rest)) ∙ ap seated (seats-after t p s i inside) ∙ sym (seated-towers (take i (t .rest)))) h
-
-  next-split : (l : ℕ) → l < p .height → nextAt l (towersOf (drop (suc i) (columns (tableAfter t i p s)))) ≡ n
-  next-split l h =
-      ap (λ (cs : List Column). nextAt l (towersOf cs)) (behind-after t p s i inside ∙ ap (λ (cs : List Column). cs ++ drop i (t .rest)) new)
-      ∙ ap (λ (v : Bool). cond v n (nextAt l (towersOf (drop i (t .rest))))) (lt-ltb l (p .height) h)
-
-  -- at each of its levels the last tower before it is linked to it
-  pub split-links : (before values : List ℕ) → Before t (suc i) before → ((l : ℕ) → l < p .height → getD values l 0 ≡ n)
-      → linkWrites before values (p .height) ≡ relink (tableAfter t i p s) (i + 1) (p .height)
-  split-links before values h v =
-      links-relink (tableAfter t i p s) (suc i) (p .height) before values few (before-split h) (λ l k. v l k ∙ sym (next-split l k))
-      ∙ ap (λ (j : ℕ). relink (tableAfter t i p s) j (p .height)) (sym (add-one i))
-
-  -- and it to the next ones
-  pub split-tower : {after : List ℕ} → 1 ≤ p .height → After t (suc i) after
-      → gather wholeTower (take (min 1 (p .height)) (linkTowers (drop (i + 1) (columns (tableAfter t i p s)))))
-      ≡ wholeTower (towerAs n (t .head .maxHeight) (p .height) q (levelsBelow after (p .height)))
-  unfolding wholeTower
-  split-tower {after} low h =
-      ap (gather wholeTower) (tower-written t i p s inside (ap (λ (cs : List Column). length (towersOf cs)) new ∙ omega arith))
-      ∙ ap (λ (cs : List Column). gather wholeTower (linkSeats (λ l. nextAt l (towersOf (drop (suc i) (columns t)))) (seatsOf cs))) new
-      ∙ ap (λ (ns : List ℕ). wholeTower (towerAs n (t .head .maxHeight) (p .height) q ns))
-      (map-from (λ l. nextAt l (towersOf (drop (suc i) (columns t)))) (λ l. getD after l 0) 0 (p .height) (λ l _ k. sym (h .next l (omega arith))))
 
 -- ---- Remove, where the span at place k + 1 goes with a tower of height h
 

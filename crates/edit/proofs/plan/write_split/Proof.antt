@@ -1,5 +1,4 @@
 use borrow.Author.Needs.{needs}
-use native.Mathlib.Omega.{arith}
 use mathlib.Core.Path.{_∙_}
 use Rattle.edit.proofs.Plannings.{split-stay, split-moved, split-last, split-follows, follows-inside}
 use Rattle.edit.proofs.plan.write_split.Statement.{statement}

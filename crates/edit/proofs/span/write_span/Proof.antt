@@ -1,14 +1,13 @@
 use denote.Ref.{now}
 use borrow.Author.Needs.{needs}
-use native.Mathlib.Omega.{arith}
 use Prim.Native.Nat.{ℕ, _*_, _≤_}
-use mathlib.Core.Path.{_≡_, sym, subst}
+use mathlib.Core.Path.{sym, subst}
 use mathlib.Core.List.{List}
 use lib.ListN.{length}
 use lib.Seq.{length-sets}
 use Rattle.draw.specs.Writing.{Writable, WroteChain}
 use Rattle.edit.specs.Staged.{streamIn}
-use Rattle.edit.proofs.Stagings.{headed, header-fits, stream-ends, part-writable, part-wrote}
+use Rattle.edit.proofs.Stagings.{header-fits, stream-ends, part-writable, part-wrote}
 use Rattle.edit.proofs.span.write_span.Statement.{statement}
 use Rattle.edit.proofs.span.write_span.Tie as tie
 use Rattle.edit.proofs.span.write_span.Reads as reads
@@ -24,7 +23,6 @@ write-stream-requires c κs =
     let s = c .before .before .before .before .before .before .before .before .before in
     let r = s .pre in
     let x = s .args .part in
-    let b = now (s .args .buffer) in
     subst (λ (l : List ℕ). (4 * x .word ≤ x .end) × (x .end ≤ length l) × Writable (now (s .args .image)) l (x .at) (x .count) (streamIn l (4 * x .word) (x .end)))
     (sym (c .before .before .before .before .before .put-header .ensures))
     (stream-ends (r .part) .0, simp length-sets (stream-ends (r .part) .1), part-writable (r .part) (r .small))
