@@ -10,7 +10,7 @@ use entries::copy::copy;
 use search::span::Sought;
 
 // Copies the bytes found to the start of the answer buffer.
-pub fn hand_over(image: &[u8], found: Sought, answer: &mut [u8]) -> Got
+pub(crate) fn hand_over(image: &[u8], found: Sought, answer: &mut [u8]) -> Got
     requires { ⌜ ((o : Option (List ℕ)) × Answered (now image) o found) ⌝ }
     ensures { λ r. ⌜ ((o : Option (List ℕ)) → Answered (now (image .entry)) o found → Hands o (now (answer .entry)) r (now (answer .exit))) ⌝ }
 {

@@ -11,7 +11,7 @@ use edit::put::put;
 
 // Puts the value under the key in the table of the name. `free` is the number of free pages; of the scratch, which is as long as
 // the image, nothing is kept.
-pub fn put_entry(
+pub(crate) fn put_entry(
     image: &mut [u8],
     scratch: &mut [u8],
     free: usize,

@@ -9,7 +9,7 @@ ghost use Rattle.blockfile.specs.Order.{within, nameRule, keyRule, same};
 use entries::key::printable_bytes;
 
 // Whether n is one of lo to hi, both included.
-pub fn is_within(lo: usize, hi: usize, n: usize) -> bool
+pub(crate) fn is_within(lo: usize, hi: usize, n: usize) -> bool
     ensures { λ r. ⌜ r ≡ within lo hi n ⌝ }
 {
     if n < lo {
@@ -19,7 +19,7 @@ pub fn is_within(lo: usize, hi: usize, n: usize) -> bool
 }
 
 // Whether the bytes are the name of a table.
-pub fn is_name(name: &[u8]) -> bool
+pub(crate) fn is_name(name: &[u8]) -> bool
     ensures { λ r. ⌜ r ≡ nameRule .allowed (now (name .entry)) ⌝ }
 {
     if !is_within(1, 255, name.len()) {
@@ -29,14 +29,14 @@ pub fn is_name(name: &[u8]) -> bool
 }
 
 // Whether the bytes are a key of a table; the rule is the same for every name.
-pub fn is_key(key: &[u8]) -> bool
+pub(crate) fn is_key(key: &[u8]) -> bool
     ensures { λ r. ⌜ ((name : List ℕ) → r ≡ keyRule name .allowed (now (key .entry))) ⌝ }
 {
     is_within(1, 65535, key.len())
 }
 
 // Whether next can be asked: behind a key, or with no bytes for the first.
-pub fn is_key_or_empty(key: &[u8]) -> bool
+pub(crate) fn is_key_or_empty(key: &[u8]) -> bool
     ensures { λ r. ⌜ ((name : List ℕ) → r ≡ (same (now (key .entry)) [] || keyRule name .allowed (now (key .entry)))) ⌝ }
 {
     if key.len() == 0 {
@@ -46,7 +46,7 @@ pub fn is_key_or_empty(key: &[u8]) -> bool
 }
 
 // Whether the bytes can be a value.
-pub fn is_value(value: &[u8]) -> bool
+pub(crate) fn is_value(value: &[u8]) -> bool
     ensures { λ r. ⌜ r ≡ not (ltb 65535 (length (now (value .entry)))) ⌝ }
 {
     if value.len() <= 65535 { true } else { false }

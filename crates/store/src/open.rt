@@ -27,7 +27,7 @@ fn is_length(n: usize) -> bool
 
 // Verifies the image. A refused call is at its end; on an accepted image the call goes on, with the scratch as its own up to the
 // image's length, and clears it when it ends.
-pub fn open(image: &[u8], scratch: &mut [u8]) -> Opened
+pub(crate) fn open(image: &[u8], scratch: &mut [u8]) -> Opened
     ensures { λ r. ⌜ Opens (now (image .entry)) (now (scratch .entry)) r (now (scratch .exit)) ⌝ }
 {
     if !is_length(image.len()) {

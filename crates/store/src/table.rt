@@ -16,7 +16,7 @@ pub enum Entered {
 }
 
 // Finds the table on an accepted image; `legal` tells whether the call's key is allowed, and `short` whether its value is.
-pub fn named_table(image: &[u8], name: &[u8], legal: bool, short: bool) -> Entered
+pub(crate) fn named_table(image: &[u8], name: &[u8], legal: bool, short: bool) -> Entered
     requires { ⌜ Accepted (now image) ⌝ }
     ensures { λ r. ⌜ NamedTable (now (image .entry)) (now (name .entry)) legal short r ⌝ }
 {
@@ -37,7 +37,7 @@ pub fn named_table(image: &[u8], name: &[u8], legal: bool, short: bool) -> Enter
 
 // Verifies the image and finds the table, for a call with no value. The scratch is cleared on every way out, since nothing after
 // this needs it.
-pub fn open_table(image: &[u8], scratch: &mut [u8], name: &[u8], legal: bool) -> Entered
+pub(crate) fn open_table(image: &[u8], scratch: &mut [u8], name: &[u8], legal: bool) -> Entered
     ensures { λ r. ⌜ Enters (now (image .entry)) (now (scratch .entry)) (now (name .entry)) legal r (now (scratch .exit)) ⌝ }
 {
     match open(image, scratch) {
