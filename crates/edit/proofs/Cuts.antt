@@ -38,7 +38,7 @@ cutAt t i p s =
     }
 
 -- the previous link of the span that follows, if there is one
-prev-on : (z q : ℕ) (ss : List Span) → Every (λ x. 1 ≤ x .page) ss → map prevLink (take 1 (linkBetween z q 0 ss)) ≡ prevOn (firstPage 0 ss) q
+pub prev-on : (z q : ℕ) (ss : List Span) → Every (λ x. 1 ≤ x .page) ss → map prevLink (take 1 (linkBetween z q 0 ss)) ≡ prevOn (firstPage 0 ss) q
 prev-on z q [] e = refl
 prev-on z q (x ∷ ss) e = go (x .page) (e .0)
   where

@@ -175,10 +175,15 @@ passing-start {img} head span tower {old} {levels} e f g long all t i =
     top = e ∙ reading-head t
 
 module _ {img : List ℕ} {root : ℕ} {t : Reading img root} {i span tower target : ℕ} {levels : List ℕ} (w : Passing t i span tower levels) (s : SpanAt t target i) where
-  pub passing-end : span ≡ target → Before (t .table) (suc i) levels
-  passing-end e =
-      let same : w .place ≡ i = one-place t (w .place) i (omega (arith, w .most, s .there)) (s .there) (sym (w .here) ∙ e ∙ s .is) in
-      subst (λ (j : ℕ). Before (t .table) (suc j) levels) same (w .last)
+  module _ (e : span ≡ target) where
+    same-place : w .place ≡ i
+    same-place = one-place t (w .place) i (omega (arith, w .most, s .there)) (s .there) (sym (w .here) ∙ e ∙ s .is)
+
+    pub passing-end : Before (t .table) (suc i) levels
+    passing-end = subst (λ (j : ℕ). Before (t .table) (suc j) levels) same-place (w .last)
+
+    pub passing-next : tower ≡ nextAt 0 (towersOf (drop (suc i) (columns (t .table))))
+    passing-next = subst (λ (j : ℕ). tower ≡ nextAt 0 (towersOf (drop (suc j) (columns (t .table))))) same-place (w .next)
 
   module _ (z : span ≡ target → ⊥) where
     before-last : w .place < i

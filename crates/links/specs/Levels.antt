@@ -45,6 +45,10 @@ pub record SpanIn (img : List ℕ) (root page : ℕ) : Type 0 where
 pub record BeforeIn (img : List ℕ) (root page : ℕ) (levels : List ℕ) : Type 0 where
   pub is : (t : Reading img root) (i : ℕ) → SpanAt t page i → Before (t .table) (suc i) levels
 
+-- the next tower behind the span on the page, 0 for none
+pub record NextIn (img : List ℕ) (root page n : ℕ) : Type 0 where
+  pub is : (t : Reading img root) (i : ℕ) → SpanAt t page i → n ≡ nextAt 0 (towersOf (drop (suc i) (columns (t .table))))
+
 -- entry 0 of the tower on the page; 0 if it has no entries
 unfoldable pub firstEntry : (img : List ℕ) (page : ℕ) → ℕ
 firstEntry img n = cond (eqb (be16 (pg img n) 10) 0) 0 (be32 (pg img n) 16)

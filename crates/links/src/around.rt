@@ -3,7 +3,7 @@ ghost use Prim.Native.Nat.{_≤_};
 ghost use mathlib.Core.Path.{_≡_};
 ghost use lib.ListN.{length};
 ghost use Rattle.pages.specs.Places.{Inside};
-ghost use Rattle.links.specs.Levels.{Filled, SpanIn, BeforeIn, firstEntry, Arrives, Passed, HasBefore, AfterIn, HasTowers, TowerOn};
+ghost use Rattle.links.specs.Levels.{Filled, SpanIn, BeforeIn, NextIn, firstEntry, Arrives, Passed, HasBefore, AfterIn, HasTowers, TowerOn};
 use pages::read::get16;
 use pages::read::get32;
 
@@ -32,7 +32,7 @@ fn next_tower(image: &[u8], page: usize) -> usize
 
 // The walk passes the span on `span`. If the next tower is the span's, it is now the last one at each of its levels.
 // Answers the next tower behind the span.
-fn pass_span(image: &[u8], span: usize, tower: usize, before: &mut [usize; 252]) -> usize
+pub fn pass_span(image: &[u8], span: usize, tower: usize, before: &mut [usize; 252]) -> usize
     requires { ⌜ Arrives (now image) span tower (now before) ⌝ }
     ensures { λ r. ⌜ Passed (now (image .entry)) span tower (now (before .entry)) r (now (before .exit)) ⌝ }
 {
@@ -44,10 +44,15 @@ fn pass_span(image: &[u8], span: usize, tower: usize, before: &mut [usize; 252])
 }
 
 // For each level the page of the last tower that reaches above it, of the spans up to the one on `target`; the head's if
-// no other does.
-pub fn towers_before(image: &[u8], root: usize, target: usize, before: &mut [usize; 252])
+// no other does. Answers the next tower behind that span, 0 for none.
+pub fn towers_before(
+    image: &[u8],
+    root: usize,
+    target: usize,
+    before: &mut [usize; 252],
+) -> usize
     requires { ⌜ SpanIn (now image) root target × (length (now before) ≡ 252) ⌝ }
-    ensures { λ _. ⌜ BeforeIn (now (image .entry)) root target (now (before .exit)) ⌝ }
+    ensures { λ r. ⌜ BeforeIn (now (image .entry)) root target (now (before .exit)) × NextIn (now (image .entry)) root target r ⌝ }
 {
     let head = get32(image, root, 12);
     fill(before, 252, head);
@@ -57,6 +62,7 @@ pub fn towers_before(image: &[u8], root: usize, target: usize, before: &mut [usi
         span = get32(image, span, 12);
         tower = pass_span(image, span, tower, before);
     }
+    tower
 }
 
 // For each level the page of the next tower after the one in `before`, 0 for none: no tower is higher than the head.

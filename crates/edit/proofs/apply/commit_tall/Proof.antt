@@ -12,7 +12,7 @@ towers-before-requires c κs = (span-in (c .before .before .before .before .pre 
 towers-after-requires : tie.Need-towers-after-requires
 towers-after-requires c κs =
     let l = c .before .before .before in
-    (has-before (l .before .before .before .before .before .pre .0 .is) _ (l .towers-before .ensures), length-replicate {A = ℕ} 252 0)
+    (has-before (l .before .before .before .before .before .pre .0 .is) _ (l .towers-before .ensures .0), length-replicate {A = ℕ} 252 0)
 
 draw-plan-requires : tie.Need-draw-plan-requires
 draw-plan-requires c κs = draw-ready (c .before .before .before .before .before .before .before .before .before .before .before .pre .0 .is)
@@ -23,7 +23,7 @@ write-tall-requires c κs =
     let l = d .before .before .before .before .before .before .before in
     let s = l .before .before .before .before .before in
     let h = s .pre .0 .is in
-    tall-ready h _ _ (d .draw-plan .ensures) (s .pre .1) _ (l .towers-before .ensures .is (reading-of h) _ (span-at h))
+    tall-ready h _ _ (d .draw-plan .ensures) (s .pre .1) _ (l .towers-before .ensures .0 .is (reading-of h) _ (span-at h))
 
 returns : tie.Need-returns
 returns c =
@@ -31,7 +31,7 @@ returns c =
     let d = w .before .before .before .before .before .before .before .before .before in
     let a = d .before .before .before in
     let l = a .before .before .before .before in
-    committed-tall _ _ _ _ _ (l .towers-before .ensures) (a .towers-after .ensures) (d .draw-plan .ensures) (l .before .before .before .before .before .pre .1) (w .write-tall .ensures)
+    committed-tall _ _ _ _ _ (l .towers-before .ensures .0) (a .towers-after .ensures) (d .draw-plan .ensures) (l .before .before .before .before .before .pre .1) (w .write-tall .ensures)
 
 pub commit-tall-spec : {M : Type 1} → statement M
 commit-tall-spec =

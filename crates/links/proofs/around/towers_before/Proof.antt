@@ -6,7 +6,7 @@ use Rattle.search.specs.Tables.{Reading}
 use Rattle.search.proofs.Tables.{reading-inside}
 use Rattle.links.specs.Levels.{SpanAt}
 use Rattle.links.proofs.Distinct.{steps}
-use Rattle.links.proofs.Passing.{Passing, head-inside, passing-start, passing-end, passing-inside, passing-arrives, passing-more, passing-less}
+use Rattle.links.proofs.Passing.{Passing, head-inside, passing-start, passing-end, passing-next, passing-inside, passing-arrives, passing-more, passing-less}
 use Rattle.links.proofs.around.towers_before.Statement.{statement}
 use Rattle.links.proofs.around.towers_before.Tie as tie
 
@@ -60,7 +60,11 @@ loop-again c t i s =
     passing-more (l .before .loop .inv t i s) s (l .loop-test .taken) _ (c .before .before .get323 .ensures .is) _ _ (c .pass-span .ensures)
 
 returns : tie.Need-returns Inv-loop μ-loop
-returns c = record { is = λ t i s. passing-end (c .before .loop .inv t i s) s (c .loop-test .left) }
+returns c =
+    (
+      record { is = λ t i s. passing-end (c .before .loop .inv t i s) s (c .loop-test .left) },
+      record { is = λ t i s. passing-next (c .before .loop .inv t i s) s (c .loop-test .left) },
+    )
 
 pub towers-before-spec : {M : Type 1} → statement M
 towers-before-spec =
