@@ -48,11 +48,11 @@ movedPart x =
     }
 
 -- the previous link of the span that follows is written where there is one
-prev-none : (m q : ℕ) → m ≡ 0 → [] ≡ prevOn m q
+pub prev-none : (m q : ℕ) → m ≡ 0 → [] ≡ prevOn m q
 prev-none zero q e = refl
 prev-none (suc m) q e = absurd (omega arith)
 
-prev-some : (m q : ℕ) → (m ≡ 0 → ⊥) → on m 8 (word32 q) ∷ [] ≡ prevOn m q
+pub prev-some : (m q : ℕ) → (m ≡ 0 → ⊥) → on m 8 (word32 q) ∷ [] ≡ prevOn m q
 prev-some zero q e = absurd (e refl)
 prev-some (suc m) q e = refl
 

@@ -28,6 +28,31 @@ use Rattle.edit.specs.Rewrites.{changed, RewriteOf, RewriteReady, Rewrit
 use Rattle.edit.specs.Puts.{TableAt, PutReady, PutDone}
 use Rattle.edit.proofs.Stands.{table-standing}
 
+-- a span rewritten with the entries es is the text's plan for them
+module _ (L : Layout) (name : List ℕ) {img : List ℕ} {root page free : ℕ} {c : Change} {k v : List ℕ} {r : KeyRule} {t : Table} {i : ℕ}
+    (o : RewriteOf img root page free c k v r t (L .free) i) {es : List Entry} (e : changed t i c k v ≡ es) {done : Bool} {out : List ℕ}
+    (w : Rewritten img root page free c k v done out) where
+  pub rewrite-done : done ≡ true → (lacks L (rewritePlan L name t i es) ≡ false) × (out ≡ apply (writesOf L (rewritePlan L name t i es)) img)
+  unfolding lacks writesOf rewritePlan
+  rewrite-done d =
+      let y : (wantedBy (parts t es) ≤ length (spanAt t i .conts) + freeCount (L .free))
+      × (out ≡ apply (draw (spanAt t i .conts) (wantedBy (parts t es)) [] (L .free) .writes
+      ++ rewrite t i es (draw (spanAt t i .conts) (wantedBy (parts t es)) [] (L .free) .pages) .writes) img)
+      = subst (λ (fs : List Entry). (wantedBy (parts t fs) ≤ length (spanAt t i .conts) + freeCount (L .free))
+      × (out ≡ apply (draw (spanAt t i .conts) (wantedBy (parts t fs)) [] (L .free) .writes
+      ++ rewrite t i fs (draw (spanAt t i .conts) (wantedBy (parts t fs)) [] (L .free) .pages) .writes) img)) e
+      (w .yes d r t (L .free) i o) in
+      (le-ltb (length (spanAt t i .conts) + freeCount (L .free)) (wantedBy (parts t es)) (y .0), y .1)
+
+  pub rewrite-refused : done ≡ false → (lacks L (rewritePlan L name t i es) ≡ true) × (out ≡ img)
+  unfolding lacks rewritePlan
+  rewrite-refused d =
+      let n = w .no d r t (L .free) i o in (
+        lt-ltb (length (spanAt t i .conts) + freeCount (L .free)) (wantedBy (parts t es))
+            (subst (λ (fs : List Entry). length (spanAt t i .conts) + freeCount (L .free) < wantedBy (parts t fs)) e (n .0)),
+        n .1,
+      )
+
 -- the change that put makes at a spot
 abbrev pub putAt : Spot → Change
 putAt s = record { index = s .index; drops = s .there; adds = 1 }
@@ -36,13 +61,13 @@ module _ {img : List ℕ} {root free : ℕ} {L : Layout} {name : List ℕ} {t : 
   abbrev pub reading : Reading img root
   reading = table-reading img L (a .well) name t (a .found) root (a .at)
 
-  abbrev place : ℕ
+  abbrev pub place : ℕ
   place = target (keyRule name) k t
 
-  abbrev ok : TableOk (keyRule name) t
+  abbrev pub ok : TableOk (keyRule name) t
   ok = table-standing img L (a .well) name t (a .found) .readable .ok
 
-  inside : place < length (columns t)
+  pub inside : place < length (columns t)
   inside = target-is (keyRule name) (keys-ordered name) k t ok .place
 
   module _ (page : ℕ) (f : TargetIn img root k page) where
@@ -50,7 +75,7 @@ module _ {img : List ℕ} {root free : ℕ} {L : Layout} {name : List ℕ} {t : 
     target-span = reading-span reading place inside page (f .is reading)
 
     module _ (s : Spot) (g : SpottedOn img page k s) where
-      spotted : Spotted (keyRule name) k (spanAt t place .entries) s
+      pub spotted : Spotted (keyRule name) k (spanAt t place .entries) s
       unfolding target-span
       spotted =
           subst (λ (r : KeyRule). Spotted r k (spanAt t place .entries) s) (reading-rule reading place inside page (f .is reading))
@@ -75,30 +100,13 @@ module _ {img : List ℕ} {root free : ℕ} {L : Layout} {name : List ℕ} {t : 
           }
 
       module _ (v : List ℕ) (r : Bool) (out : List ℕ) (w : Rewritten img root page free (putAt s) k v r out) where
-        abbrev es : List Entry
-        es = insert (keyRule name) k v (spanAt t place .entries)
-
-        done-as : r ≡ true → (wantedBy (parts t es) ≤ length (spanAt t place .conts) + freeCount (L .free))
-            × (out ≡ apply (draw (spanAt t place .conts) (wantedBy (parts t es)) [] (L .free) .writes
-            ++ rewrite t place es (draw (spanAt t place .conts) (wantedBy (parts t es)) [] (L .free) .pages) .writes) img)
-        done-as e =
-            subst (λ (fs : List Entry). (wantedBy (parts t fs) ≤ length (spanAt t place .conts) + freeCount (L .free))
-            × (out ≡ apply (draw (spanAt t place .conts) (wantedBy (parts t fs)) [] (L .free) .writes
-            ++ rewrite t place fs (draw (spanAt t place .conts) (wantedBy (parts t fs)) [] (L .free) .pages) .writes) img)) (inserted v)
-            (w .yes e (keyRule name) t (L .free) place (rewrite-of v))
-
         pub put-done : r ≡ true → (lacks L (putPlan L name t k v) ≡ false) × (out ≡ apply (writesOf L (putPlan L name t k v)) img)
-        unfolding lacks writesOf putPlan rewritePlan
-        put-done e = (le-ltb (length (spanAt t place .conts) + freeCount (L .free)) (wantedBy (parts t es)) (done-as e .0), done-as e .1)
+        unfolding putPlan
+        put-done e = rewrite-done L name (rewrite-of v) (inserted v) w e
 
         pub put-refused : r ≡ false → (lacks L (putPlan L name t k v) ≡ true) × (out ≡ img)
-        unfolding lacks putPlan rewritePlan
-        put-refused e =
-            let n = w .no e (keyRule name) t (L .free) place (rewrite-of v) in (
-              lt-ltb (length (spanAt t place .conts) + freeCount (L .free)) (wantedBy (parts t es))
-                  (subst (λ (fs : List Entry). length (spanAt t place .conts) + freeCount (L .free) < wantedBy (parts t fs)) (inserted v) (n .0)),
-              n .1,
-            )
+        unfolding putPlan
+        put-refused e = rewrite-refused L name (rewrite-of v) (inserted v) w e
 
 module _ {img scratch : List ℕ} {root free : ℕ} {k v : List ℕ} (h : PutReady img scratch root free k v) (page : ℕ) (f : TargetIn img root k page) where
   pub spot-ready : SpanOn img page

@@ -8,7 +8,7 @@ use crate::plan::Plan;
 use links::write::put_counts;
 
 // 1, or 0 for none.
-fn at_most_one(n: usize) -> usize
+pub fn at_most_one(n: usize) -> usize
     ensures { λ r. ⌜ r ≡ min 1 n ⌝ }
 {
     if n == 0 {

@@ -111,7 +111,7 @@ module _ {img : List ℕ} {root : ℕ} (t : Reading img root) (page i : ℕ) (s 
       record { small = t .readable .small; low = p .low; high = p .high; fits = h }
 
   pub owner-none : (be32 (pg img (getD levels 0 0)) 12 ≢ page) → TowerAt t i 0
-  owner-none z = record { none = λ _. go (owner t page i s b); some = λ n. absurd (n refl) }
+  owner-none z = record { page = λ n. absurd (n refl); none = λ _. go (owner t page i s b); some = λ n. absurd (n refl) }
     where
       go : Owner t page i (getD levels 0 0) → towersAt (t .table) i ≡ []
       go (inl e) = e .0
@@ -119,7 +119,7 @@ module _ {img : List ℕ} {root : ℕ} (t : Reading img root) (page i : ℕ) (s 
 
   pub owner-some : be32 (pg img (getD levels 0 0)) 12 ≡ page → TowerAt t i (getD levels 0 0)
   owner-some k =
-      record { none = λ z. absurd (omega (arith, before-page t b 0 (omega arith) .low)); some = λ _. go (owner t page i s b) }
+      record { page = λ _. before-page t b 0 (omega arith); none = λ z. absurd (omega (arith, before-page t b 0 (omega arith) .low)); some = λ _. go (owner t page i s b) }
     where
       go : Owner t page i (getD levels 0 0)
           → (w : Tower) × (towersAt (t .table) i ≡ w ∷ []) × (getD levels 0 0 ≡ w .page) × (be16 (pg img (getD levels 0 0)) 10 ≡ w .height)

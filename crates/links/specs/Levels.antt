@@ -10,6 +10,7 @@ use Rattle.blockfile.specs.Layout.{Tower, Table, columns, towersOf}
 use Rattle.blockfile.specs.WellFormed.{nextAt}
 use Rattle.blockfile.specs.Put.{lastAt, spanAt}
 use Rattle.blockfile.specs.Remove.{towersAt}
+use Rattle.entries.specs.Places.{IsPage}
 use Rattle.search.specs.Tables.{Reading}
 
 -- the levels, where each level l below h becomes f l, are `out`
@@ -97,6 +98,7 @@ pub record HasTowers (img : List ℕ) (page : ℕ) (levels : List ℕ) : Type 0 
 
 -- r is the page of the tower at place i of the table, 0 if there is none
 pub record TowerAt {img : List ℕ} {root : ℕ} (t : Reading img root) (i r : ℕ) : Type 0 where
+  pub page : (r ≡ 0 → ⊥) → IsPage img r
   pub none : r ≡ 0 → towersAt (t .table) i ≡ []
   pub some : (r ≡ 0 → ⊥) → (w : Tower) × (towersAt (t .table) i ≡ w ∷ []) × (r ≡ w .page) × (be16 (pg img r) 10 ≡ w .height)
 

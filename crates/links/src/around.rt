@@ -45,12 +45,7 @@ pub fn pass_span(image: &[u8], span: usize, tower: usize, before: &mut [usize; 2
 
 // For each level the page of the last tower that reaches above it, of the spans up to the one on `target`; the head's if
 // no other does. Answers the next tower behind that span, 0 for none.
-pub fn towers_before(
-    image: &[u8],
-    root: usize,
-    target: usize,
-    before: &mut [usize; 252],
-) -> usize
+pub fn towers_before(image: &[u8], root: usize, target: usize, before: &mut [usize; 252]) -> usize
     requires { ⌜ SpanIn (now image) root target × (length (now before) ≡ 252) ⌝ }
     ensures { λ r. ⌜ BeforeIn (now (image .entry)) root target (now (before .exit)) × NextIn (now (image .entry)) root target r ⌝ }
 {

@@ -60,11 +60,10 @@ loop-again c t i s =
     passing-more (l .before .loop .inv t i s) s (l .loop-test .taken) _ (c .before .before .get323 .ensures .is) _ _ (c .pass-span .ensures)
 
 returns : tie.Need-returns Inv-loop μ-loop
-returns c =
-    (
-      record { is = λ t i s. passing-end (c .before .loop .inv t i s) s (c .loop-test .left) },
-      record { is = λ t i s. passing-next (c .before .loop .inv t i s) s (c .loop-test .left) },
-    )
+returns c = (
+  record { is = λ t i s. passing-end (c .before .loop .inv t i s) s (c .loop-test .left) },
+  record { is = λ t i s. passing-next (c .before .loop .inv t i s) s (c .loop-test .left) },
+)
 
 pub towers-before-spec : {M : Type 1} → statement M
 towers-before-spec =

@@ -1,0 +1,4 @@
+pub mod Giving
+pub mod Owning
+pub mod Unlinkings
+pub mod Removals

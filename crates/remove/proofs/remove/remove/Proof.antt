@@ -1,0 +1,93 @@
+-- `remove::remove::remove` meets its contract: no such key, the span goes, or it is rewritten.
+use denote.Ref.{now}
+use native.Mathlib.Omega.{arith}
+use borrow.Author.Needs.{needs}
+use Rattle.edit.proofs.Puttings.{reading, target-span}
+use Rattle.remove.proofs.Removals.{linked-on, unlink-ready, rewrite-ready, not-there, went, stayed, full}
+use Rattle.remove.proofs.remove.remove.Statement.{statement}
+use Rattle.remove.proofs.remove.remove.Tie as tie
+
+abbrev start : tie.After-find-span → tie.Start
+start c = c .before .before .before .before .before
+
+-- the search, before the key was found to be there
+abbrev spot : tie.Else1 → tie.After-find-spot
+spot c = c .before .before
+
+find-span-requires : tie.Need-find-span-requires
+find-span-requires c κs = let s = c .before .before .before .before in reading (s .pre .is) (now (s .args .key))
+
+find-spot-requires : tie.Need-find-spot-requires
+find-spot-requires c κs = let f = c .before in target-span (start f .pre .is) _ _ (f .find-span .ensures)
+
+returns : tie.Need-returns
+returns c =
+    let g = c .before .before in
+    not-there _ (g .before .before .find-span .ensures) _ (g .find-spot .ensures) (c .if1 .taken)
+
+read-links-requires : tie.Need-read-links-requires
+read-links-requires c κs = let f = spot (c .before) .before .before in linked-on (start f .pre .is) _ _ (f .find-span .ensures)
+
+unlink-requires : tie.Need-unlink-requires
+unlink-requires c κs =
+    let o = c .before .before in
+    let e = o .before .before .before in
+    let g = spot e in
+    let f = g .before .before in
+    unlink-ready (start f .pre) _ (f .find-span .ensures) _ (g .find-spot .ensures) (e .if1 .left) _ (o .before .read-links .ensures) (o .goes .ensures .yes (c .before .if2 .taken))
+
+returns-2 : tie.Need-returns-2
+returns-2 c =
+    let u = c .before .before in
+    let t = u .before .before in
+    let o = t .before in
+    let e = o .before .before .before in
+    let g = spot e in
+    went _ (g .before .before .find-span .ensures) _ (g .find-spot .ensures) (e .if1 .left) _ (o .before .read-links .ensures) (o .goes .ensures .yes (t .if2 .taken)) (u .unlink .ensures)
+
+rewrite-requires : tie.Need-rewrite-requires
+rewrite-requires c κs =
+    let e = c .before .before .before .before .before .before .before in
+    let g = spot e in
+    let f = g .before .before in
+    rewrite-ready (start f .pre) _ (f .find-span .ensures) _ (g .find-spot .ensures) (e .if1 .left) _ (omega arith)
+
+returns-3 : tie.Need-returns-3
+returns-3 c =
+    let w = c .before .before .before .before .before in
+    let t = w .before .before .before .before in
+    let o = t .before in
+    let e = o .before .before .before in
+    let g = spot e in
+    stayed _ (g .before .before .find-span .ensures) _ (g .find-spot .ensures) (e .if1 .left) _ (o .before .read-links .ensures) (o .goes .ensures .other (t .if2 .left)) (w .rewrite .ensures) (c .if3 .taken)
+
+returns-4 : tie.Need-returns-4
+returns-4 c =
+    let w = c .before .before .before .before .before in
+    let t = w .before .before .before .before in
+    let o = t .before in
+    let e = o .before .before .before in
+    let g = spot e in
+    full _ (g .before .before .find-span .ensures) _ (g .find-spot .ensures) (e .if1 .left) _ (o .before .read-links .ensures) (o .goes .ensures .other (t .if2 .left)) (w .rewrite .ensures) (c .if3 .left)
+
+pub remove-spec : {M : Type 1} → statement M
+remove-spec =
+    tie.close
+    (tie.spec
+    find-span-requires
+    find-spot-requires
+    (λ c. search needs)
+    returns
+    read-links-requires
+    (λ c κs. search needs)
+    unlink-requires
+    (λ c. search needs)
+    returns-2
+    (λ c. search needs)
+    rewrite-requires
+    (λ c. search needs)
+    (λ c. search needs)
+    returns-3
+    (λ c. search needs)
+    (λ c. search needs)
+    returns-4)

@@ -1,0 +1,4 @@
+pub mod Gone
+pub mod Towers
+pub mod Unlinks
+pub mod Removes

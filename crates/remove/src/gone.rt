@@ -1,0 +1,16 @@
+// The pages of a span that goes, given back.
+ghost use Rattle.remove.specs.Gone.{GoneReady, GaveGone};
+use draw::draw::give_chain;
+use pages::free::give_page;
+
+// Gives back the continuation pages from `first` on, the span's page and its tower's, 0 for no tower.
+pub fn give_gone(image: &mut [u8], first: usize, page: usize, tower: usize)
+    requires { ⌜ GoneReady (now image) first page tower ⌝ }
+    ensures { λ _. ⌜ GaveGone (now (image .entry)) first page tower (now (image .exit)) ⌝ }
+{
+    give_chain(image, first);
+    give_page(image, page);
+    if tower != 0 {
+        give_page(image, tower)
+    }
+}

@@ -1,0 +1,5 @@
+// A key removed from a table of an accepted image: its span rewritten, or unlinked with its tower and given back.
+pub mod gone;
+pub mod remove;
+pub mod tower;
+pub mod unlink;
