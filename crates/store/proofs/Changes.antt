@@ -11,9 +11,9 @@ use Rattle.blockfile.specs.declared.Wrote.{Wrote}
 use Rattle.blockfile.specs.Refusals.{Op}
 use Rattle.blockfile.specs.Calls.{cleared, wroteReply, accepted, Keeps}
 use Rattle.laws.proofs.Determined.{determined}
-use Rattle.store.specs.Open.{Opening}
-use Rattle.store.specs.Change.{Lending, Changed}
-use Rattle.store.proofs.Opens.{ends}
+use Rattle.refusals.specs.Open.{Opening}
+use Rattle.change.specs.Change.{Lending, Changed}
+use Rattle.refusals.proofs.Opens.{ends}
 
 -- ---- The scratch that is lent: up to the image's length
 

@@ -13,8 +13,8 @@ use Rattle.blockfile.specs.Calls.{cleared, checkedReply, accepted, Keeps}
 use Rattle.verify.specs.Tables.{keysOf}
 use Rattle.verify.specs.Image.{countsOf}
 use Rattle.laws.proofs.Determined.{determined}
-use Rattle.store.specs.Open.{Opening}
-use Rattle.store.proofs.Opens.{ends}
+use Rattle.refusals.specs.Open.{Opening}
+use Rattle.refusals.proofs.Opens.{ends}
 
 abbrev mapped : Keyed Table → Keyed (List Entry)
 mapped n = record { key = n .key; value = entriesOf (n .value) }

@@ -18,9 +18,9 @@ use Rattle.search.specs.Tables.{Reading, FoundIn, AboveIn}
 use Rattle.search.proofs.Seeks.{answer-as}
 use Rattle.search.proofs.Readables.{table-reading}
 use Rattle.laws.proofs.Determined.{determined}
-use Rattle.store.specs.Table.{tableRows, OnTable, Entering}
-use Rattle.store.specs.Answer.{answerRows, Hands}
-use Rattle.store.proofs.Tables.{rows-left, its-map}
+use Rattle.refusals.specs.Table.{tableRows, OnTable, Entering}
+use Rattle.refusals.specs.Answer.{answerRows, Hands}
+use Rattle.refusals.proofs.Tables.{rows-left, its-map}
 
 -- ---- A call that reads: it hands out the bytes sought in a table, and writes nothing on the image
 

@@ -3,27 +3,21 @@ ghost use mathlib.Core.List.{[]};
 ghost use mathlib.Core.Path.{_≡_};
 ghost use Rattle.blockfile.specs.Refusals.{check, get, next, put, refusal};
 ghost use Rattle.blockfile.specs.Calls.{Keeps, checkedReply, gotReply, wroteReply};
-use answer::hand_over;
 use blockfile::Checked;
 use blockfile::Got;
 use blockfile::Refusal;
 use blockfile::Wrote;
-use change::put_entry;
-use legal::is_key;
-use legal::is_key_or_empty;
-use open::Opened;
-use open::open;
+use change::put::put_entry;
 use pages::claim::clear;
+use refusals::answer::hand_over;
+use refusals::legal::is_key;
+use refusals::legal::is_key_or_empty;
+use refusals::open::Opened;
+use refusals::open::open;
+use refusals::table::Entered;
+use refusals::table::open_table;
 use search::next::next_key;
 use search::table::find;
-use table::Entered;
-use table::open_table;
-
-mod answer;
-mod change;
-mod legal;
-mod open;
-mod table;
 
 // Is the image well-formed, and what does it hold.
 pub fn check(image: &[u8], scratch: &mut [u8]) -> Checked

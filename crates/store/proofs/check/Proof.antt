@@ -1,7 +1,7 @@
 use native.Mathlib.Omega.{arith}
 use borrow.Author.Needs.{needs}
-use Rattle.store.specs.Open.{Opening}
-use Rattle.store.proofs.Opens.{stops, goes-on}
+use Rattle.refusals.specs.Open.{Opening}
+use Rattle.refusals.proofs.Opens.{stops, goes-on}
 use Rattle.store.proofs.Checks.{check-done}
 use Rattle.store.proofs.check.Statement.{statement}
 use Rattle.store.proofs.check.Tie as tie

@@ -1,7 +1,7 @@
 use borrow.Author.Needs.{needs}
 use Rattle.blockfile.specs.Refusals.{get}
-use Rattle.store.specs.Table.{Entering}
-use Rattle.store.proofs.Tables.{table-stops, table-goes-on}
+use Rattle.refusals.specs.Table.{Entering}
+use Rattle.refusals.proofs.Tables.{table-stops, table-goes-on}
 use Rattle.store.proofs.Gets.{ReadCall, get-reads, read-on, read-answers, reading, get-finds}
 use Rattle.store.proofs.get.Statement.{statement}
 use Rattle.store.proofs.get.Tie as tie

@@ -1,7 +1,7 @@
 use borrow.Author.Needs.{needs}
 use Rattle.blockfile.specs.Refusals.{next}
-use Rattle.store.specs.Table.{Entering}
-use Rattle.store.proofs.Tables.{table-stops, table-goes-on}
+use Rattle.refusals.specs.Table.{Entering}
+use Rattle.refusals.proofs.Tables.{table-stops, table-goes-on}
 use Rattle.store.proofs.Gets.{ReadCall, next-reads, read-on, read-answers, reading, next-finds}
 use Rattle.store.proofs.next.Statement.{statement}
 use Rattle.store.proofs.next.Tie as tie

@@ -1,8 +1,8 @@
 use native.Mathlib.Omega.{arith}
 use mathlib.Core.Path.{sym, _∙_}
 use borrow.Author.Needs.{needs}
-use Rattle.store.specs.Open.{Opening}
-use Rattle.store.proofs.Opens.{stops, goes-on}
+use Rattle.refusals.specs.Open.{Opening}
+use Rattle.refusals.proofs.Opens.{stops, goes-on}
 use Rattle.store.proofs.Changes.{lent-enough, lent-long, lending, still-enough, change-kept}
 use Rattle.store.proofs.put.Statement.{statement}
 use Rattle.store.proofs.put.Tie as tie

@@ -1,0 +1,61 @@
+use borrow.Author.Needs.{needs}
+use borrow.Author.Tests.{not-true, not-false}
+use Rattle.change.proofs.Puts.{Judged, put-refused, put-ready, put-done, put-full}
+use Rattle.change.proofs.put.put_entry.Statement.{statement}
+use Rattle.change.proofs.put.put_entry.Tie as tie
+
+abbrev start : tie.After-named-table → tie.Start
+start c = c .before .before .before .before .before .before .before .before .before
+
+-- key and value were judged by the rules of put
+judged : (c : tie.After-named-table)
+    → let a = start c .args in
+    Judged (a .name .now) (a .key .now) (a .value .now) (c .before .before .is-key .result) (c .before .is-value .result)
+judged c = record { key-is = c .before .before .is-key .ensures _; value-is = c .before .is-value .ensures }
+
+named-table-requires : tie.Need-named-table-requires
+named-table-requires c κs = let p = c .before .before .before .before .before .before .before .before .pre in (p .layout, p .well)
+
+put-requires : tie.Need-put-requires
+put-requires c κs =
+    let p = c .before .before .before in
+    let t = p .before .before in
+    put-ready (judged t) (start t .pre) (t .named-table .ensures) _ (p .page .given .1)
+
+returns : tie.Need-returns
+returns c =
+    let w = c .before .before .before .before .before in
+    let p = w .before .before .before .before in
+    let t = p .before .before in
+    put-full (judged t) (start t .pre) (t .named-table .ensures) _ (p .page .given .1) _ _ (w .put .ensures) (not-true _ (c .if1 .taken))
+
+returns-2 : tie.Need-returns-2
+returns-2 c =
+    let t = c .before .before .before in
+    put-refused (judged t) (start t .pre) (t .named-table .ensures) _ (c .before .why .given .1)
+
+returns-3 : tie.Need-returns-3
+returns-3 c =
+    let w = c .before .before .before .before .before in
+    let p = w .before .before .before .before in
+    let t = p .before .before in
+    put-done (judged t) (start t .pre) (t .named-table .ensures) _ (p .page .given .1) _ _ (w .put .ensures) (not-false _ (c .if1 .left))
+
+pub put-entry-spec : {M : Type 1} → statement M
+put-entry-spec =
+    tie.close
+    (tie.spec
+    (λ c κs. search needs)
+    (λ c κs. search needs)
+    named-table-requires
+    (λ c. search needs)
+    (λ c. search needs)
+    put-requires
+    (λ c. search needs)
+    (λ c. search needs)
+    returns
+    (λ c. search needs)
+    returns-2
+    (λ c. search needs)
+    (λ c. search needs)
+    returns-3)

@@ -1,4 +1,0 @@
-pub mod Open
-pub mod Table
-pub mod Answer
-pub mod Change
