@@ -1,1 +1,3 @@
+pub mod Named
 pub mod Puts
+pub mod Removes

@@ -1,13 +1,15 @@
 // The calls on a lent image. Each is for any bytes: no call has a precondition.
 ghost use mathlib.Core.List.{[]};
 ghost use mathlib.Core.Path.{_≡_};
-ghost use Rattle.blockfile.specs.Refusals.{check, get, next, put, refusal};
+ghost use Rattle.blockfile.specs.Refusals.{check, get, next, put, remove, refusal};
+ghost use Rattle.change.specs.Request.{opOf};
 ghost use Rattle.blockfile.specs.Calls.{Keeps, checkedReply, gotReply, wroteReply};
 use blockfile::Checked;
 use blockfile::Got;
 use blockfile::Refusal;
 use blockfile::Wrote;
-use change::put::put_entry;
+use change::Request;
+use change::change;
 use pages::claim::clear;
 use refusals::answer::hand_over;
 use refusals::legal::is_key;
@@ -52,19 +54,48 @@ pub fn next(image: &[u8], scratch: &mut [u8], name: &[u8], key: &[u8], answer: &
     }
 }
 
-// Puts the value under the key in the table of the name: a new key, or a new value for one that is there.
-pub fn put(image: &mut [u8], scratch: &mut [u8], name: &[u8], key: &[u8], value: &[u8]) -> Wrote
-    ensures { λ r. ⌜ Keeps (put (now (name .entry)) (now (key .entry)) (now (value .entry))) (now (image .entry)) (now (scratch .entry)) [] (wroteReply r) (now (image .exit)) (now (scratch .exit)) [] ⌝ }
+// A call that writes: verifies the image, makes the change with the scratch as its own up to the image's length, and clears that.
+fn write(
+    image: &mut [u8],
+    scratch: &mut [u8],
+    request: Request,
+    name: &[u8],
+    key: &[u8],
+    value: &[u8],
+) -> Wrote
+    ensures { λ r. ⌜ Keeps (opOf request (now (name .entry)) (now (key .entry)) (now (value .entry))) (now (image .entry)) (now (scratch .entry)) [] (wroteReply r) (now (image .exit)) (now (scratch .exit)) [] ⌝ }
 {
     match open(image, scratch) {
         Opened::Refused(why) => Wrote::Refused(why),
         Opened::Accepted(counts) => {
             let n = image.len();
-            let wrote = put_entry(image, &mut scratch[..n], counts.free, name, key, value);
+            let wrote = change(
+                image,
+                &mut scratch[..n],
+                counts.free,
+                request,
+                name,
+                key,
+                value,
+            );
             clear(scratch, n);
             wrote
         }
     }
+}
+
+// Puts the value under the key in the table of the name: a new key, or a new value for one that is there.
+pub fn put(image: &mut [u8], scratch: &mut [u8], name: &[u8], key: &[u8], value: &[u8]) -> Wrote
+    ensures { λ r. ⌜ Keeps (put (now (name .entry)) (now (key .entry)) (now (value .entry))) (now (image .entry)) (now (scratch .entry)) [] (wroteReply r) (now (image .exit)) (now (scratch .exit)) [] ⌝ }
+{
+    write(image, scratch, Request::Put, name, key, value)
+}
+
+// Removes the key from the table of the name.
+pub fn remove(image: &mut [u8], scratch: &mut [u8], name: &[u8], key: &[u8]) -> Wrote
+    ensures { λ r. ⌜ Keeps (remove (now (name .entry)) (now (key .entry))) (now (image .entry)) (now (scratch .entry)) [] (wroteReply r) (now (image .exit)) (now (scratch .exit)) [] ⌝ }
+{
+    write(image, scratch, Request::Remove, name, key, &key[..0])
 }
 
 // The numbers of a refusal: its row in the table, and with 9 the length needed, else 0.

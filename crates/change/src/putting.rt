@@ -1,4 +1,4 @@
-// What the calls that write do on an accepted image: the refusals 4 to 6 and 10, and the change.
+// Put on an accepted image: the refusals 4 to 6 and 10, and the change.
 ghost use Rattle.blockfile.specs.Refusals.{put};
 ghost use Rattle.change.specs.Change.{Lending, Changed};
 use blockfile::Refusal;

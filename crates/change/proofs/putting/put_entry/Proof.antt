@@ -1,8 +1,8 @@
 use borrow.Author.Needs.{needs}
 use borrow.Author.Tests.{not-true, not-false}
 use Rattle.change.proofs.Puts.{Judged, put-refused, put-ready, put-done, put-full}
-use Rattle.change.proofs.put.put_entry.Statement.{statement}
-use Rattle.change.proofs.put.put_entry.Tie as tie
+use Rattle.change.proofs.putting.put_entry.Statement.{statement}
+use Rattle.change.proofs.putting.put_entry.Tie as tie
 
 abbrev start : tie.After-named-table → tie.Start
 start c = c .before .before .before .before .before .before .before .before .before
