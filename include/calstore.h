@@ -84,6 +84,16 @@ struct calstore_answer calstore_put(uint8_t *image, size_t image_len, uint8_t *s
                                     const uint8_t *name, size_t name_len, const uint8_t *key, size_t key_len,
                                     const uint8_t *value, size_t value_len);
 
+/* Removes a key, with its value, from a table.
+ *   image, image_len      the card's image; it changes only where number is 0, with a refusal all of its bytes stay
+ *   scratch, scratch_len  memory for the call's own work
+ *   name, name_len        the table's name
+ *   key, key_len          the key
+ * length is 0. After a remove that is done the image is again one that check accepts.
+ * Refusals: 1, 2, 3, 4, 6, 8, 10. */
+struct calstore_answer calstore_remove(uint8_t *image, size_t image_len, uint8_t *scratch, size_t scratch_len,
+                                       const uint8_t *name, size_t name_len, const uint8_t *key, size_t key_len);
+
 #ifdef __cplusplus
 }
 #endif

@@ -187,6 +187,12 @@ emptied : removes (tableOf 5 2 (spanOf 6 (8 ∷ []) (longC ∷ [])) (towerOf 7 1
 unfolding layoutAfter writesOf removePlan rewritePlan target spanAt parts wantedBy share reached lensAt entryEnd draw rewrite tableAfter rewriting relink nameRule keyRule wholeSpan counts word32 word16 spanMark contMark
 emptied = refl
 
+-- a span that goes: its continuation page is given back, then the span, then its tower
+given-in-turn : removes (tableOf 5 2 a-b (towerOf 7 12 1) (towered (spanOf 12 (8 ∷ []) (longC ∷ [])) (towerOf 13 12 1) ∷ [])) noneListed 0x63 .0
+    ≡ cardOf 20 (tableOf 5 2 a-b (towerOf 7 12 1) []) (blockOf 9 (8 ∷ 12 ∷ 13 ∷ []) ∷ [])
+unfolding layoutAfter removePlan unlinkPlan unlinking relink target spanAt draw nameRule keyRule
+given-in-turn = refl
+
 -- a key below the second span's first belongs to an empty first span
 targets : map (λ k. target (keyRule lens) (k ∷ []) (tableOf 5 2 (spanOf 6 [] []) (towerOf 7 12 1) (threeSpans .rest))) (0x61 ∷ 0x63 ∷ 0x64 ∷ 0x7a ∷ [])
     ≡ 0 ∷ 1 ∷ 1 ∷ 2 ∷ []
