@@ -19,6 +19,7 @@ pub mod Sizes
 pub mod TableCreate
 pub mod Allowed
 pub mod Room
+pub mod Grows
 pub mod Chains
 pub mod SpanLinks
 pub mod TowerLinks

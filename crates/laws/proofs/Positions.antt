@@ -62,7 +62,7 @@ erase-end v k (e ∷ es) = go (same k (e .key)) (erase-end (entryEnd v e) k es)
     go true ih = entries-mono v (entryEnd v e) es (let l : v ≤ lensAt v = lens-after v in omega arith)
     go false ih = ih
 
-reached-mono : (a b : ℕ) → a ≤ b → (a + 1015) / 1016 ≤ (b + 1015) / 1016
+pub reached-mono : (a b : ℕ) → a ≤ b → (a + 1015) / 1016 ≤ (b + 1015) / 1016
 reached-mono a b h = omega arith
 
 pub erase-reached : (k : List ℕ) (es : List Entry) → reached (erase k es) ≤ reached es
