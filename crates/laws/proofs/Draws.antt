@@ -185,7 +185,7 @@ take-cases-few : (n : ℕ) (ws : List ℕ) (c : ℕ) (bs : List Block) → Few (
 take-cases-few n ws zero bs f = f .1
 take-cases-few n ws (suc c) bs f = (rw length-take (omega (arith, f .0)), f .1)
 
-take-cases-left : (n : ℕ) (ws : List ℕ) (c : ℕ) (bs : List Block) → length ws ≡ c → suc (freeCount (takeFrom n ws c bs .free)) ≡ 1 + length ws + freeCount bs
+pub take-cases-left : (n : ℕ) (ws : List ℕ) (c : ℕ) (bs : List Block) → length ws ≡ c → suc (freeCount (takeFrom n ws c bs .free)) ≡ 1 + length ws + freeCount bs
 unfolding freeCount
 take-cases-left n ws zero bs e = omega arith
 take-cases-left n ws (suc c) bs e = let l : length (take c ws) ≡ c = rw length-take (omega arith) in omega arith

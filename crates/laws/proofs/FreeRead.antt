@@ -34,7 +34,7 @@ count-block n b bs = omega (arith, count-listed n (b .listed) (freePieces bs))
 pub count-self : (n : ℕ) → count n (n ∷ []) ≡ 1
 count-self n = rw (eq-eqb n n refl)
 
-count-getD : (ns : List ℕ) (i : ℕ) → i < length ns → 1 ≤ count (getD ns i 0) ns
+pub count-getD : (ns : List ℕ) (i : ℕ) → i < length ns → 1 ≤ count (getD ns i 0) ns
 count-getD [] i l = absurd (omega arith)
 count-getD (n ∷ ns) zero l = omega (arith, count-self n)
 count-getD (n ∷ ns) (suc i) l = omega (arith, count-getD ns i (omega arith))

@@ -36,6 +36,7 @@ pub mod Written
 pub mod Edits
 pub mod Encodes
 pub mod Draws
+pub mod TakeOrder
 pub mod Ledgers
 pub mod Remembers
 pub mod Spots

@@ -1,10 +1,10 @@
-// The free list: a page taken from it, a page given back.
+// The free list: a page taken from it, a page given back, the pages taken next.
 ghost use mathlib.Core.Path.{_≡_};
 ghost use Prim.Native.Nat.{_<_};
 ghost use Rattle.blockfile.specs.Bytes.{apply};
 ghost use Rattle.laws.proofs.FreeRead.{listWrites, blockWrites};
 ghost use Rattle.pages.specs.Places.{Inside};
-ghost use Rattle.pages.specs.Taking.{Takeable, Took, Giveable, Gave};
+ghost use Rattle.pages.specs.Taking.{Takeable, Took, Giveable, Gave, Ahead, TakenAfter};
 use crate::mark;
 use crate::read::get32;
 use crate::write::put_mark;
@@ -25,6 +25,25 @@ pub fn take_page(image: &mut [u8]) -> usize
     let last = get32(image, first, 12 + 4 * count);
     put32(image, first, 12, count - 1);
     last
+}
+
+// The page that is taken after `skip` others. A block gives the pages that it lists, the last one first, then itself.
+pub fn taken_after(image: &[u8], skip: usize) -> usize
+    requires { ⌜ Ahead (now image) skip ⌝ }
+    ensures { λ r. ⌜ TakenAfter (now (image .entry)) skip r ⌝ }
+{
+    let mut block = get32(image, 1, 16);
+    let mut count = get32(image, block, 12);
+    let mut left = skip;
+    while count < left {
+        left -= count + 1;
+        block = get32(image, block, 8);
+        count = get32(image, block, 12);
+    }
+    if left == count {
+        return block;
+    }
+    get32(image, block, 12 + 4 * (count - left))
 }
 
 // The page is marked free and appended to the block `first`, which lists `count` pages.
