@@ -30,7 +30,7 @@ use Rattle.edit.specs.Cuts.{spanWrites, towerWrites, countsAt}
 use Rattle.edit.specs.Plans.{SpansOf}
 use Rattle.edit.specs.Counts.{sizeOf, spansOf, levelsOf, countsOf}
 use Rattle.edit.specs.Applies.{DrewPlan, FlatReady, WroteFlat, TowerOn, TallReady, riseFor, WroteTall}
-use Rattle.edit.specs.Commits.{CommitOf, drawnFor, Committed}
+use Rattle.edit.specs.Commits.{CommitOf, drawnWith, Committed}
 use Rattle.edit.proofs.Cuts.{cutAt, riseAt, Around, rewriting-coded}
 use Rattle.edit.proofs.Stands.{past-pages, head-borne}
 use Rattle.edit.proofs.Risings.{page-of}
@@ -63,7 +63,7 @@ module _ {img b : List ℕ} {x : Plan} {r : KeyRule} {t : Table} {bs : List Bloc
   p = parts t es
 
   abbrev ps : List ℕ
-  ps = drawnFor t i bs es .pages
+  ps = drawnWith t i bs es (x .more) .pages
 
   abbrev s : Shared
   s = share p ps
@@ -127,7 +127,7 @@ module _ {img b : List ℕ} {x : Plan} {r : KeyRule} {t : Table} {bs : List Bloc
   -- ---- After drawing
 
   module _ (out after : List ℕ) (w : DrewPlan img b x out after) where
-    pub image-drawn : out ≡ apply (drawnFor t i bs es .writes) img
+    pub image-drawn : out ≡ apply (drawnWith t i bs es (x .more) .writes) img
     image-drawn = w .image (can-draw h) ∙ ap (λ (d : Drawn). apply (d .writes) img) (drawn-is h)
 
     pub list-drawn : after ≡ b1 h
@@ -136,23 +136,23 @@ module _ {img b : List ℕ} {x : Plan} {r : KeyRule} {t : Table} {bs : List Bloc
     pub flat-ready : FlatReady out after x
     flat-ready =
         subst (λ (l : List ℕ). FlatReady l after x) (sym image-drawn)
-        (subst (λ (l : List ℕ). FlatReady (apply (drawnFor t i bs es .writes) img) l x) (sym list-drawn) (record { spans = spans-ready h; counts = counts-ready h }))
+        (subst (λ (l : List ℕ). FlatReady (apply (drawnWith t i bs es (x .more) .writes) img) l x) (sym list-drawn) (record { spans = spans-ready h; counts = counts-ready h }))
 
     spans-drawn : SpansOf out after x (cutAt t i p s) (s .span)
     spans-drawn =
         subst (λ (l : List ℕ). SpansOf l after x (cutAt t i p s) (s .span)) (sym image-drawn)
-        (subst (λ (l : List ℕ). SpansOf (apply (drawnFor t i bs es .writes) img) l x (cutAt t i p s) (s .span)) (sym list-drawn) (spans-of h))
+        (subst (λ (l : List ℕ). SpansOf (apply (drawnWith t i bs es (x .more) .writes) img) l x (cutAt t i p s) (s .span)) (sym list-drawn) (spans-of h))
 
     -- the writes of the text, after those of drawing
-    joined : (ws : List Write) (fin : List ℕ) → fin ≡ apply ws out → rewrite t i es ps .writes ≡ ws → fin ≡ apply (drawnFor t i bs es .writes ++ rewrite t i es ps .writes) img
+    joined : (ws : List Write) (fin : List ℕ) → fin ≡ apply ws out → rewrite t i es ps .writes ≡ ws → fin ≡ apply (drawnWith t i bs es (x .more) .writes ++ rewrite t i es ps .writes) img
     joined ws fin e c =
-        e ∙ ap₂ (λ (l : List Write) (m : List ℕ). apply l m) (sym c) image-drawn ∙ sym (apply-append (drawnFor t i bs es .writes) (rewrite t i es ps .writes) img)
+        e ∙ ap₂ (λ (l : List Write) (m : List ℕ). apply l m) (sym c) image-drawn ∙ sym (apply-append (drawnWith t i bs es (x .more) .writes) (rewrite t i es ps .writes) img)
 
     none : (ns : List ℕ) → length ns ≡ 0 → ns ≡ []
     none [] e = refl
     none (n ∷ ns) e = absurd (omega arith)
 
-    flat-is : x .wants .tower ≡ 0 → (fin : List ℕ) → WroteFlat out after x fin → fin ≡ apply (drawnFor t i bs es .writes ++ rewrite t i es ps .writes) img
+    flat-is : x .wants .tower ≡ 0 → (fin : List ℕ) → WroteFlat out after x fin → fin ≡ apply (drawnWith t i bs es (x .more) .writes ++ rewrite t i es ps .writes) img
     flat-is z fin f =
         joined (spanWrites (cutAt t i p s) (s .span) ++ (countsOf x ∷ [])) fin (f .image (cutAt t i p s) (s .span) spans-drawn)
         (coded [] [] (λ l. absurd (omega (arith, ap length no-tower)))
@@ -183,14 +183,14 @@ module _ {img b : List ℕ} {x : Plan} {r : KeyRule} {t : Table} {bs : List Bloc
         record {
           listed = ap (λ (l : List ℕ). be32 l (4 * (1 + x .wants .conts + x .wants .span))) list-drawn
               ∙ subst (Numbers (b1 h) (4 * (1 + x .wants .conts + x .wants .span))) e (tower-listed h) .0;
-          page = on-page (subst (Every (PageOf (length (apply (drawnFor t i bs es .writes) img)))) e (tower-pages h) .0);
+          page = on-page (subst (Every (PageOf (length (apply (drawnWith t i bs es (x .more) .writes) img)))) e (tower-pages h) .0);
         }
       where
-        on-page : PageOf (length (apply (drawnFor t i bs es .writes) img)) n → IsPage out n
+        on-page : PageOf (length (apply (drawnWith t i bs es (x .more) .writes) img)) n → IsPage out n
         on-page q = subst (λ (l : List ℕ). IsPage l n) (sym image-drawn) (record { low = q .0; high = q .1 })
 
     same-length : length out ≡ length img
-    same-length = ap length image-drawn ∙ length-apply (drawnFor t i bs es .writes) img
+    same-length = ap length image-drawn ∙ length-apply (drawnWith t i bs es (x .more) .writes) img
 
     pub tall-ready : (x .wants .tower ≡ 0 → ⊥) → (before : List ℕ) → Before t (suc i) before → TallReady out after x before
     tall-ready z before l =
@@ -208,7 +208,7 @@ module _ {img b : List ℕ} {x : Plan} {r : KeyRule} {t : Table} {bs : List Bloc
         }
 
     tall-is : (x .wants .tower ≡ 0 → ⊥) → (before behind : List ℕ) → Around t i before behind → (fin : List ℕ) → WroteTall out after x before behind fin
-        → fin ≡ apply (drawnFor t i bs es .writes ++ rewrite t i es ps .writes) img
+        → fin ≡ apply (drawnWith t i bs es (x .more) .writes ++ rewrite t i es ps .writes) img
     tall-is z before behind a fin f = go (s .span) refl (with-span (omega (arith, ap length (o .1))))
       where
         o : (n : ℕ) × (s .tower ≡ n ∷ [])
@@ -226,7 +226,7 @@ module _ {img b : List ℕ} {x : Plan} {r : KeyRule} {t : Table} {bs : List Bloc
               after = behind;
             }
 
-        go : (ns : List ℕ) → s .span ≡ ns → 1 ≤ length ns → fin ≡ apply (drawnFor t i bs es .writes ++ rewrite t i es ps .writes) img
+        go : (ns : List ℕ) → s .span ≡ ns → 1 ≤ length ns → fin ≡ apply (drawnWith t i bs es (x .more) .writes ++ rewrite t i es ps .writes) img
         go [] e l = absurd (omega arith)
         go (q ∷ qs) e l =
             joined (spanWrites (cutAt t i p s) (q ∷ qs) ++ (towerWrites (riseFor x q before behind) (o .0 ∷ []) ++ (countsOf x ∷ []))) fin

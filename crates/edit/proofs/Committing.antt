@@ -3,8 +3,8 @@ use Prim.Native.Nat.{ℕ, suc, _+_, _*_, _≤_, _<_}
 use native.Mathlib.Omega.{arith}
 use mathlib.Core.Path.{_≡_, refl, ap, ap₂, sym, _∙_, subst}
 use mathlib.Core.List.{List, [], _∷_, _++_, append-nil}
-use lib.ListN.{length, take, drop, length-append, length-map}
-use lib.Seq.{sets, length-sets, take-all, take-at, drop-at}
+use lib.ListN.{length, take, drop, length-append, length-map, take-append-drop}
+use lib.Seq.{sets, length-sets, take-at, drop-at}
 use Rattle.blockfile.specs.Bytes.{word32, apply, Every, gather}
 use Rattle.blockfile.specs.Layout.{Entry, Span, Column, Table, Block, columns, spansOf, towersOf, entriesOf, reached, freeCount}
 use Rattle.blockfile.specs.Order.{KeyRule}
@@ -36,8 +36,8 @@ use Rattle.edit.specs.Staged.{Staged}
 use Rattle.edit.specs.Plans.{StayOf, MovedOf, SpansOf, SpansReady}
 use Rattle.edit.specs.Counts.{CountsReady}
 use Rattle.edit.specs.Makes.{PlanOf}
-use Rattle.edit.specs.Applies.{totalOf, DrawReady}
-use Rattle.edit.specs.Commits.{CommitOf, drawnFor}
+use Rattle.edit.specs.Applies.{wantedOf, totalOf, DrawReady}
+use Rattle.edit.specs.Commits.{CommitOf, drawnWith}
 use Rattle.edit.proofs.Cuts.{cutAt}
 use Rattle.edit.proofs.Stands.{span-borne, past-inside, besides, in-hand, columns-few}
 use Rattle.edit.proofs.Stagings.{staged-kept}
@@ -59,7 +59,7 @@ module _ (t : Table) (es : List Entry) {n : ℕ} (half : n ≡ length (parts t e
   move-half = ap₂ (λ (n : ℕ) (l : List Entry). drop n l) half (sym (parts-whole t es)) ∙ drop-at (parts t es .stay) (parts t es .move) (length (parts t es .stay)) refl
 
 -- the pages that a plan wants
-pub plan-total : {t : Table} {i : ℕ} {es : List Entry} {x : Plan} → PlanOf t i es x → totalOf x ≡ wantedBy (parts t es)
+pub plan-total : {t : Table} {i : ℕ} {es : List Entry} {x : Plan} → PlanOf t i es x → wantedOf x ≡ wantedBy (parts t es)
 unfolding wantedBy
 plan-total q = λ j. q .wants .conts j + q .wants .span j + q .wants .tower j
 
@@ -108,13 +108,13 @@ module _ {img b : List ℕ} {x : Plan} {r : KeyRule} {t : Table} {bs : List Bloc
   p = parts t es
 
   abbrev d : Drawn
-  d = drawnFor t i bs es
+  d = drawnWith t i bs es (x .more)
 
   abbrev s : Shared
   s = share p (d .pages)
 
-  pub total : totalOf x ≡ wantedBy p
-  total = plan-total (h .plan)
+  pub total : totalOf x ≡ wantedBy p + x .more
+  total = ap (λ (n : ℕ). n + x .more) (plan-total (h .plan))
 
   -- ---- Drawing
 
@@ -146,14 +146,14 @@ module _ {img b : List ℕ} {x : Plan} {r : KeyRule} {t : Table} {bs : List Bloc
   img1 = apply (d .writes) img
 
   drawn-hand : InHand img1 (d .pages ++ (spanAt t i .page ∷ []))
-  drawn-hand = drawn-in (h .standing) i (h .inside) (wantedBy p) (h .room)
+  drawn-hand = drawn-in (h .standing) i (h .inside) (wantedBy p + x .more) (h .room)
 
-  pub many : length (d .pages) ≡ wantedBy p
-  many = length-drawn old (wantedBy p) [] bs (h .room)
+  pub many : length (d .pages) ≡ wantedBy p + x .more
+  many = length-drawn old (wantedBy p + x .more) [] bs (h .room)
 
   -- no more pages than the image has
-  pub words : 1 + wantedBy p ≤ x .base
-  words = omega (arith, drawn-few (h .standing) i (h .inside) (wantedBy p) (h .room), h .base)
+  pub words : 1 + (wantedBy p + x .more) ≤ x .base
+  words = omega (arith, drawn-few (h .standing) i (h .inside) (wantedBy p + x .more) (h .room), h .base)
 
   pub draw-ready : DrawReady img b x
   draw-ready =
@@ -163,6 +163,7 @@ module _ {img b : List ℕ} {x : Plan} {r : KeyRule} {t : Table} {bs : List Bloc
         conts = omega (arith, total, words, h .base, h .standing .readable .small);
         span = omega (arith, total, words, h .base, h .standing .readable .small);
         tower = omega (arith, total, words, h .base, h .standing .readable .small);
+        more = omega (arith, total, words, h .base, h .standing .readable .small);
       }
 
   -- ---- The buffer with the list of pages
@@ -203,18 +204,18 @@ module _ {img b : List ℕ} {x : Plan} {r : KeyRule} {t : Table} {bs : List Bloc
       subst (λ (l : List ℕ). Numbers l 0 (x .page ∷ ps)) (sym one-run)
       (stored-stand b 0 (x .page ∷ ps) (omega (arith, many, words, h .base, h .lent)) (all-words (x .page ∷ ps) (own, drawn-pages)))
 
-  -- the pages, shared out
-  shares : ps ≡ s .conts ++ (s .span ++ s .tower)
-  shares = sym (share-all p ps ∙ take-all (wantedBy p) ps (omega (arith, many)))
+  -- the pages, shared out, and the further ones
+  shares : ps ≡ (s .conts ++ (s .span ++ s .tower)) ++ drop (wantedBy p) ps
+  shares = sym (ap (λ (l : List ℕ). l ++ drop (wantedBy p) ps) (share-all p ps) ∙ take-append-drop (wantedBy p) ps)
 
   enough : wantedBy p ≤ length ps
   enough = omega (arith, many)
 
   listed-shares : Numbers b1 0 ((x .page ∷ s .conts) ++ (s .span ++ s .tower))
-  listed-shares = subst (λ (l : List ℕ). Numbers b1 0 (x .page ∷ l)) shares listed
+  listed-shares = numbers-left b1 0 ((x .page ∷ s .conts) ++ (s .span ++ s .tower)) (drop (wantedBy p) ps) (subst (λ (l : List ℕ). Numbers b1 0 (x .page ∷ l)) shares listed)
 
   pages-shares : Every (PageOf (length img1)) (s .conts ++ (s .span ++ s .tower))
-  pages-shares = subst (Every (PageOf (length img1))) shares drawn-pages
+  pages-shares = every-left (PageOf (length img1)) (s .conts ++ (s .span ++ s .tower)) (drop (wantedBy p) ps) (subst (Every (PageOf (length img1))) shares drawn-pages)
 
   -- entries staged behind the list are as they were
   behind-list : {at : ℕ} {fs : List Entry} → 4 * x .base ≤ at → Staged b at fs → Staged b1 at fs

@@ -76,13 +76,14 @@ module _ {img : List ℕ} {root page : ℕ} {c : Change} {both : ℕ} (r : PlanR
             moved = s .moved;
           }
 
-      pub plan-for : (base : ℕ) (w : Wants) → WantsFor x w → PlanFor img root page c both base (record { root = root; page = page; list = l; links = k; shape = x; wants = w; base = base })
-      plan-for base w v =
+      pub plan-for : (more base : ℕ) (w : Wants) → WantsFor x w → PlanFor img root page c both more base (record { root = root; page = page; list = l; links = k; shape = x; wants = w; more = more; base = base })
+      plan-for more base w v =
           record {
             stay = s .stay;
             moved = s .moved;
             list = refl;
             span = refl;
+            further = refl;
             words = refl;
             is = λ t i h e z.
                 let p : ShapeOf (parts (t .table) (spliced c e (spanAt (t .table) i .entries))) x

@@ -3,11 +3,13 @@ use Prim.Native.Nat.{ℕ, _+_, _*_, _/_, _≤_, _<_}
 use native.Mathlib.Omega.{arith}
 use mathlib.Core.Path.{_≡_, refl, ap, sym, _∙_, subst}
 use mathlib.Core.Bool.{true, false, true≢false}
-use mathlib.Core.List.{List, [], _∷_}
+use mathlib.Core.List.{List, [], _∷_, _++_}
 use lib.ListN.{length, take, drop, length-append}
+use Rattle.blockfile.specs.Bytes.{apply}
 use Rattle.blockfile.specs.Layout.{Entry, Table, Block, entriesFrom, entriesEnd, reached, freeCount}
 use Rattle.blockfile.specs.Order.{KeyRule}
-use Rattle.blockfile.specs.Put.{Parts, parts, spanWanted, spanAt}
+use Rattle.blockfile.specs.Free.{Drawn, draw}
+use Rattle.blockfile.specs.Put.{Parts, parts, spanWanted, wantedBy, spanAt, rewrite}
 use Rattle.laws.proofs.Positions.{reached-one}
 use Rattle.laws.proofs.Splits.{parts-whole}
 use Rattle.search.specs.Spans.{SpanOn}
@@ -19,8 +21,8 @@ use Rattle.edit.specs.declared.plan.Plan.{Plan}
 use Rattle.edit.specs.Shapes.{ContsReady, ContsCounted}
 use Rattle.edit.specs.Makes.{Changes, PlanReady, PlanOf, PlanFor}
 use Rattle.edit.specs.Stages.{coming, PartsFor, PartsReady, PartsIn, PartsStaged}
-use Rattle.edit.specs.Applies.{totalOf}
-use Rattle.edit.specs.Commits.{CommitOf, Committed}
+use Rattle.edit.specs.Applies.{wantedOf, totalOf}
+use Rattle.edit.specs.Commits.{CommitOf, drawnWith, drawnFor, Committed}
 use Rattle.edit.specs.Rewrites.{changed, RewriteOf, RewriteReady, Rewritten}
 use Rattle.edit.proofs.Stands.{columns-few}
 use Rattle.edit.proofs.Makings.{span-on, entries-on, conts-on, fits-on}
@@ -48,7 +50,7 @@ module _ {img : List ℕ} {root page free : ℕ} {c : Change} {k v : List ℕ} {
   pub all-few : 1024 * (length (spanAt t i .conts) + freeCount bs + 1) ≤ length img
   all-few = drawn-few (o .standing) i (o .change .inside) (length (spanAt t i .conts) + freeCount bs) (omega arith)
 
-  module _ {base : ℕ} {x : Plan} (q : PlanFor img root page c (length k + length v) base x) where
+  module _ {more base : ℕ} {x : Plan} (q : PlanFor img root page c (length k + length v) more base x) where
     pub plan-is : PlanOf t i (changed t i c k v) x
     plan-is = q .is table-at i (o .change) (coming k v) refl
 
@@ -154,6 +156,12 @@ module _ {img : List ℕ} {root page free : ℕ} {c : Change} {k v : List ℕ} {
 
 -- ---- The answers
 
+-- no further pages are drawn
+drawn-plain : (t : Table) (i : ℕ) (bs : List Block) (es : List Entry) (n : ℕ) → n ≡ 0 → drawnWith t i bs es n ≡ drawnFor t i bs es
+drawn-plain t i bs es n z =
+    let e : wantedBy (parts t es) + n ≡ wantedBy (parts t es) = omega arith in
+    ap (λ (w : ℕ). draw (spanAt t i .conts) w [] bs) e
+
 module _ {img b : List ℕ} {root page free : ℕ} {c : Change} {k v : List ℕ} (h : RewriteReady img b root page free c k v) where
   pub plan-ready : PlanReady img root page c (length k + length v)
   plan-ready =
@@ -165,26 +173,31 @@ module _ {img b : List ℕ} {root page free : ℕ} {c : Change} {k v : List ℕ}
         short = omega (arith, h .short, h .brief);
       }
 
-  pub whole-pages : {base : ℕ} {x : Plan} → base ≡ length img / 1024 → PlanFor img root page c (length k + length v) base x → 1024 * x .base ≡ length img
+  pub whole-pages : {base : ℕ} {x : Plan} → base ≡ length img / 1024 → PlanFor img root page c (length k + length v) 0 base x → 1024 * x .base ≡ length img
   whole-pages e q = omega (arith, q .words, h .is .standing .shows .size)
 
-module _ {img : List ℕ} {root page free : ℕ} {c : Change} {k v : List ℕ} {base : ℕ} {x : Plan} (q : PlanFor img root page c (length k + length v) base x)
+module _ {img : List ℕ} {root page free : ℕ} {c : Change} {k v : List ℕ} {base : ℕ} {x : Plan} (q : PlanFor img root page c (length k + length v) 0 base x)
     (n : ℕ) (m : ContsCounted img page n) where
-  pub no-room : n + free < totalOf x → Rewritten img root page free c k v false img
+  pub no-room : n + free < wantedOf x → Rewritten img root page free c k v false img
   no-room l =
       record {
         yes = λ e. absurd (true≢false (sym e));
         no = λ e r t bs i o. (omega (arith, counted o q n m, o .pages, plan-total (plan-is o q)), refl);
       }
 
-  pub has-room : {r : KeyRule} {t : Table} {bs : List Block} {i : ℕ} → totalOf x ≤ n + free → RewriteOf img root page free c k v r t bs i
+  pub has-room : {r : KeyRule} {t : Table} {bs : List Block} {i : ℕ} → wantedOf x ≤ n + free → RewriteOf img root page free c k v r t bs i
       → totalOf x ≤ length (spanAt t i .conts) + freeCount bs
-  has-room l o = omega (arith, counted o q n m, o .pages)
+  has-room l o = omega (arith, counted o q n m, o .pages, q .further)
 
-  pub rewritten : totalOf x ≤ n + free → 1024 * x .base ≡ length img → (b out : List ℕ) → length b ≡ length img → PartsStaged img x c k v b → Committed img b x out
+  pub rewritten : wantedOf x ≤ n + free → 1024 * x .base ≡ length img → (b out : List ℕ) → length b ≡ length img → PartsStaged img x c k v b → Committed img b x out
       → Rewritten img root page free c k v true out
   rewritten l w b out e g d =
       record {
-        yes = λ a r t bs i o. (omega (arith, has-room l o, plan-total (plan-is o q)), d .image r t bs i (changed t i c k v) (commit-of o q w (has-room l o) b e g));
+        yes = λ a r t bs i o.
+            let es : List Entry = changed t i c k v in (
+              omega (arith, has-room l o, plan-total (plan-is o q)),
+              d .image r t bs i es (commit-of o q w (has-room l o) b e g)
+                  ∙ ap (λ (y : Drawn). apply (y .writes ++ rewrite t i es (y .pages) .writes) img) (drawn-plain t i bs es (x .more) (q .further)),
+            );
         no = λ a. absurd (true≢false a);
       }

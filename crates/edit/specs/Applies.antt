@@ -15,9 +15,13 @@ use Rattle.edit.specs.Counts.{countsOf, CountsReady}
 
 -- ---- Pages drawn
 
--- the pages that the plan wants
+-- the pages that the plan wants for the spans and the tower
+abbrev pub wantedOf : Plan → ℕ
+wantedOf x = x .wants .conts + x .wants .span + x .wants .tower
+
+-- with the further ones
 abbrev pub totalOf : Plan → ℕ
-totalOf x = x .wants .conts + x .wants .span + x .wants .tower
+totalOf x = wantedOf x + x .more
 
 pub record DrawReady (img buffer : List ℕ) (x : Plan) : Type 0 where
   pub drawable : Drawable img (x .links .first) (totalOf x)
@@ -25,6 +29,7 @@ pub record DrawReady (img buffer : List ℕ) (x : Plan) : Type 0 where
   pub conts : x .wants .conts < 4294967296
   pub span : x .wants .span < 4294967296
   pub tower : x .wants .tower < 4294967296
+  pub more : x .more < 4294967296
 
 -- they were drawn, and the list is the span's page and these
 pub record DrewPlan (img buffer : List ℕ) (x : Plan) (out after : List ℕ) : Type 0 where

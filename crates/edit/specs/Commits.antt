@@ -22,7 +22,7 @@ pub record CommitOf (img buffer : List ℕ) (x : Plan) (r : KeyRule) (t : Table)
   pub plan : PlanOf t i es x
   pub few : length es ≤ t .spanSize + 1
   pub staged : PartsIn x es buffer
-  pub room : wantedBy (parts t es) ≤ length (spanAt t i .conts) + freeCount bs
+  pub room : wantedBy (parts t es) + x .more ≤ length (spanAt t i .conts) + freeCount bs
   pub base : 1024 * x .base ≡ length img
   pub lent : length buffer ≡ length img
 
@@ -34,10 +34,14 @@ pub record CommitReady (img buffer : List ℕ) (x : Plan) : Type 0 where
   pub entries : List Entry
   pub is : CommitOf img buffer x rule table free place entries
 
--- the pages drawn for it
+-- the pages drawn for it, and n further ones
+abbrev pub drawnWith : Table → (i : ℕ) → List Block → List Entry → (n : ℕ) → Drawn
+drawnWith t i bs es n = draw (spanAt t i .conts) (wantedBy (parts t es) + n) [] bs
+
+-- no further ones
 abbrev pub drawnFor : Table → (i : ℕ) → List Block → List Entry → Drawn
 drawnFor t i bs es = draw (spanAt t i .conts) (wantedBy (parts t es)) [] bs
 
 pub record Committed (img buffer : List ℕ) (x : Plan) (out : List ℕ) : Type 0 where
   pub image : (r : KeyRule) (t : Table) (bs : List Block) (i : ℕ) (es : List Entry) → CommitOf img buffer x r t bs i es
-      → out ≡ apply (drawnFor t i bs es .writes ++ rewrite t i es (drawnFor t i bs es .pages) .writes) img
+      → out ≡ apply (drawnWith t i bs es (x .more) .writes ++ rewrite t i es (drawnWith t i bs es (x .more) .pages) .writes) img

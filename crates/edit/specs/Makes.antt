@@ -34,11 +34,12 @@ pub record PlanOf (t : Table) (i : ℕ) (es : List Entry) (x : Plan) : Type 0 wh
   pub shape : ShapeOf (parts t es) (x .shape)
   pub wants : WantsOf (parts t es) (x .wants)
 
-pub record PlanFor (img : List ℕ) (root page : ℕ) (c : Change) (both base : ℕ) (x : Plan) : Type 0 where
+pub record PlanFor (img : List ℕ) (root page : ℕ) (c : Change) (both more base : ℕ) (x : Plan) : Type 0 where
   pub stay : x .shape .stay < far
   pub moved : x .shape .moved < far
   pub list : x .root ≡ root
   pub span : x .page ≡ page
+  pub further : x .more ≡ more
   pub words : x .base ≡ base
   pub is : (t : Reading img root) (i : ℕ) → Changes (t .table) i page c → (e : Entry) → Sized e both
       → PlanOf (t .table) i (spliced c e (spanAt (t .table) i .entries)) x

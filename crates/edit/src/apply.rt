@@ -14,12 +14,12 @@ use draw::list::set_number;
 use links::around::towers_after;
 use links::around::towers_before;
 
-// Draws the pages that the plan wants: the list in the buffer is then the span's own page and these.
+// Draws the pages that the plan wants, and the further ones: the list in the buffer is then the span's own page and these.
 fn draw_plan(image: &mut [u8], buffer: &mut [u8], plan: Plan)
     requires { ⌜ DrawReady (now image) (now buffer) plan ⌝ }
     ensures { λ _. ⌜ DrewPlan (now (image .entry)) (now (buffer .entry)) plan (now (image .exit)) (now (buffer .exit)) ⌝ }
 {
-    let total = plan.wants.conts + plan.wants.span + plan.wants.tower;
+    let total = plan.wants.conts + plan.wants.span + plan.wants.tower + plan.more;
     set_number(buffer, 0, plan.page);
     draw_pages(image, plan.links.first, total, buffer, 1)
 }

@@ -16,8 +16,8 @@ use pages::write::put32;
 use stage::change::Change;
 
 // A span that is rewritten: its table's skip-list page, its own page, and what these say; how its entries are shared out and
-// the pages wanted. The buffer has the list of pages in its first `base` words, the span's own first; behind them, for each
-// page of the list in turn, 1016 bytes of a stream.
+// the pages wanted; how many more pages are drawn behind these. The buffer has the list of pages in its first `base` words, the
+// span's own first; behind them, for each page of the list in turn, 1016 bytes of a stream.
 pub struct Plan {
     pub root: usize,
     pub page: usize,
@@ -25,6 +25,7 @@ pub struct Plan {
     pub links: Links,
     pub shape: Shape,
     pub wants: Wants,
+    pub more: usize,
     pub base: usize,
 }
 
@@ -35,10 +36,11 @@ pub fn make_plan(
     page: usize,
     change: Change,
     both: usize,
+    more: usize,
     base: usize,
 ) -> Plan
     requires { ⌜ PlanReady (now image) root page change both ⌝ }
-    ensures { λ r. ⌜ PlanFor (now (image .entry)) root page change both base r ⌝ }
+    ensures { λ r. ⌜ PlanFor (now (image .entry)) root page change both more base r ⌝ }
 {
     let list = read_list(image, root);
     let links = read_links(image, page);
@@ -51,6 +53,7 @@ pub fn make_plan(
         links,
         shape,
         wants,
+        more,
         base,
     }
 }

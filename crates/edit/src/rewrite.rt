@@ -22,7 +22,7 @@ pub fn rewrite(
     ensures { λ r. ⌜ Rewritten (now (image .entry)) root page free change (now (key .entry)) (now (value .entry)) r (now (image .exit)) ⌝ }
 {
     let base = image.len() / 1024;
-    let plan = make_plan(image, root, page, change, key.len() + value.len(), base);
+    let plan = make_plan(image, root, page, change, key.len() + value.len(), 0, base);
     let old = count_conts(image, page, plan.links.size);
     if old + free < plan.wants.conts + plan.wants.span + plan.wants.tower {
         return false;

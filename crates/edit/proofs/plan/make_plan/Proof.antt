@@ -22,7 +22,7 @@ returns c =
     let s = c .before in
     let k = s .before in
     let l = k .before in
-    plan-for (l .before .before .pre) _ _ (l .read-list .ensures) (k .read-links .ensures) _ (s .shape-of .ensures) _ _ (c .wanted .ensures)
+    plan-for (l .before .before .pre) _ _ (l .read-list .ensures) (k .read-links .ensures) _ (s .shape-of .ensures) _ _ _ (c .wanted .ensures)
 
 pub make-plan-spec : {M : Type 1} → statement M
 make-plan-spec = tie.close (tie.spec (λ c κs. search needs) read-links-requires shape-of-requires wanted-requires returns)
