@@ -22,8 +22,8 @@ use Rattle.edit.specs.Shapes.{ContsReady, ContsCounted}
 use Rattle.edit.specs.Makes.{Changes, PlanReady, PlanOf, PlanFor}
 use Rattle.edit.specs.Stages.{coming, PartsFor, PartsReady, PartsIn, PartsStaged}
 use Rattle.edit.specs.Applies.{wantedOf, totalOf}
-use Rattle.edit.specs.Commits.{CommitOf, drawnWith, drawnFor, Committed}
-use Rattle.edit.specs.Rewrites.{changed, RewriteOf, RewriteReady, Rewritten}
+use Rattle.edit.specs.Commits.{CommitOf, CommitReady, drawnWith, drawnFor, Committed}
+use Rattle.edit.specs.Rewrites.{changed, RewriteOf, Carries, CarryReady, Carried, RewriteReady, Rewritten}
 use Rattle.edit.proofs.Stands.{columns-few}
 use Rattle.edit.proofs.Makings.{span-on, entries-on, conts-on, fits-on}
 use Rattle.edit.proofs.Committing.{plan-total, stay-half, move-half, drawn-few}
@@ -126,7 +126,7 @@ module _ {img : List ℕ} {root page free : ℕ} {c : Change} {k v : List ℕ} {
       fits-in : 1 + totalOf x ≤ x .base
       fits-in = omega (arith, drawn-few (o .standing) i (o .change .inside) (totalOf x) room)
 
-      pub parts-ready : (b : List ℕ) → length b ≡ length img → PartsReady img b x c k v
+      parts-ready : (b : List ℕ) → length b ≡ length img → PartsReady img b x c k v
       parts-ready b e =
           let m : reached (p .stay) ≡ (x .shape .stay + 1015) / 1016 = reach-of (p .stay) (x .shape .stay) (plan-is .shape .stay) in
           let a : x .wants .conts + 1 ≡ reached (p .stay) = omega (arith, plan-is .wants .conts, reached-one (p .stay)) in
@@ -139,7 +139,7 @@ module _ {img : List ℕ} {root page free : ℕ} {c : Change} {k v : List ℕ} {
             moved = λ l. let g : x .wants .span ≡ reached (p .move) = plan-is .wants .span ∙ some-reach (p .move) (omega (arith, plan-is .wants .span)) in omega (arith, fits-in);
           }
 
-      pub commit-of : (b : List ℕ) → length b ≡ length img → PartsStaged img x c k v b → CommitOf img b x r t bs i (changed t i c k v)
+      commit-of : (b : List ℕ) → length b ≡ length img → PartsStaged img x c k v b → CommitOf img b x r t bs i (changed t i c k v)
       commit-of b e g =
           record {
             standing = o .standing;
@@ -153,6 +153,27 @@ module _ {img : List ℕ} {root page free : ℕ} {c : Change} {k v : List ℕ} {
             base = whole;
             lent = e;
           }
+
+-- ---- Carried out
+
+module _ {img : List ℕ} {x : Plan} {c : Change} {k v : List ℕ} where
+  pub stage-ready : {b : List ℕ} → (h : CarryReady img b x c k v) → PartsReady img b x c k v
+  stage-ready {b} h = let a = h .carries in parts-ready (a .is) (a .plan) (a .whole) (a .room) b (h .lent)
+
+  pub commit-ready : {b₀ : List ℕ} → (h : CarryReady img b₀ x c k v) → (b : List ℕ) → length b ≡ length b₀ → PartsStaged img x c k v b → CommitReady img b x
+  commit-ready h b e g =
+      let a = h .carries in
+      record {
+        rule = h .rule;
+        table = h .table;
+        free = h .blocks;
+        place = h .place;
+        entries = _;
+        is = commit-of (a .is) (a .plan) (a .whole) (a .room) b (e ∙ h .lent) g;
+      }
+
+  pub carried : (b : List ℕ) → length b ≡ length img → PartsStaged img x c k v b → (out : List ℕ) → Committed img b x out → Carried img x c k v out
+  carried b e g out d = record { image = λ r t bs i a. d .image r t bs i (changed t i c k v) (commit-of (a .is) (a .plan) (a .whole) (a .room) b e g) }
 
 -- ---- The answers
 
@@ -185,18 +206,24 @@ module _ {img : List ℕ} {root page free : ℕ} {c : Change} {k v : List ℕ} {
         no = λ e r t bs i o. (omega (arith, counted o q n m, o .pages, plan-total (plan-is o q)), refl);
       }
 
-  pub has-room : {r : KeyRule} {t : Table} {bs : List Block} {i : ℕ} → wantedOf x ≤ n + free → RewriteOf img root page free c k v r t bs i
+  has-room : {r : KeyRule} {t : Table} {bs : List Block} {i : ℕ} → wantedOf x ≤ n + free → RewriteOf img root page free c k v r t bs i
       → totalOf x ≤ length (spanAt t i .conts) + freeCount bs
   has-room l o = omega (arith, counted o q n m, o .pages, q .further)
 
-  pub rewritten : wantedOf x ≤ n + free → 1024 * x .base ≡ length img → (b out : List ℕ) → length b ≡ length img → PartsStaged img x c k v b → Committed img b x out
-      → Rewritten img root page free c k v true out
-  rewritten l w b out e g d =
+  carries : {r : KeyRule} {t : Table} {bs : List Block} {i : ℕ} → wantedOf x ≤ n + free → 1024 * x .base ≡ length img → RewriteOf img root page free c k v r t bs i
+      → Carries img x c k v r t bs i
+  carries l w o = record { root = root; page = page; free = free; more = 0; base = base; is = o; plan = q; whole = w; room = has-room l o }
+
+  pub carry-ready : wantedOf x ≤ n + free → 1024 * x .base ≡ length img → (b : List ℕ) → RewriteReady img b root page free c k v → CarryReady img b x c k v
+  carry-ready l w b h = record { rule = h .rule; table = h .table; blocks = h .blocks; place = h .place; carries = carries l w (h .is); lent = h .lent }
+
+  pub rewritten : wantedOf x ≤ n + free → 1024 * x .base ≡ length img → (out : List ℕ) → Carried img x c k v out → Rewritten img root page free c k v true out
+  rewritten l w out d =
       record {
         yes = λ a r t bs i o.
             let es : List Entry = changed t i c k v in (
               omega (arith, has-room l o, plan-total (plan-is o q)),
-              d .image r t bs i es (commit-of o q w (has-room l o) b e g)
+              d .image r t bs i (carries l w o)
                   ∙ ap (λ (y : Drawn). apply (y .writes ++ rewrite t i es (y .pages) .writes) img) (drawn-plain t i bs es (x .more) (q .further)),
             );
         no = λ a. absurd (true≢false a);

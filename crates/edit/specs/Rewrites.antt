@@ -1,5 +1,5 @@
 -- A span of a table rewritten: what is asked for, and what is left.
-use Prim.Native.Nat.{ℕ, _+_, _≤_, _<_}
+use Prim.Native.Nat.{ℕ, _+_, _*_, _≤_, _<_}
 use mathlib.Core.Path.{_≡_}
 use mathlib.Core.Bool.{Bool, true, false}
 use mathlib.Core.List.{List, _++_}
@@ -10,10 +10,12 @@ use Rattle.blockfile.specs.Order.{KeyRule}
 use Rattle.blockfile.specs.Put.{spanAt, parts, wantedBy, rewrite}
 use Rattle.stage.specs.declared.change.Change.{Change}
 use Rattle.stage.specs.Changes.{spliced}
+use Rattle.edit.specs.declared.plan.Plan.{Plan}
 use Rattle.edit.specs.Standing.{Standing}
-use Rattle.edit.specs.Makes.{Changes}
+use Rattle.edit.specs.Makes.{Changes, PlanFor}
 use Rattle.edit.specs.Stages.{coming}
-use Rattle.edit.specs.Commits.{drawnFor}
+use Rattle.edit.specs.Applies.{totalOf}
+use Rattle.edit.specs.Commits.{drawnWith, drawnFor}
 
 -- the entries of the span at place i after the change
 abbrev pub changed : Table → (i : ℕ) → Change → (k v : List ℕ) → List Entry
@@ -26,6 +28,35 @@ pub record RewriteOf (img : List ℕ) (root page free : ℕ) (c : Change) (k v :
   pub change : Changes t i page c
   pub pages : free ≡ freeCount bs
   pub few : length (changed t i c k v) ≤ t .spanSize + 1
+
+-- ---- A plan carried out
+
+-- the plan is one of such a change, and there is room
+pub record Carries (img : List ℕ) (x : Plan) (c : Change) (k v : List ℕ) (r : KeyRule) (t : Table) (bs : List Block) (i : ℕ) : Type 0 where
+  pub root : ℕ
+  pub page : ℕ
+  pub free : ℕ
+  pub more : ℕ
+  pub base : ℕ
+  pub is : RewriteOf img root page free c k v r t bs i
+  pub plan : PlanFor img root page c (length k + length v) more base x
+  pub whole : 1024 * x .base ≡ length img
+  pub room : totalOf x ≤ length (spanAt t i .conts) + freeCount bs
+
+pub record CarryReady (img buffer : List ℕ) (x : Plan) (c : Change) (k v : List ℕ) : Type 0 where
+  pub rule : KeyRule
+  pub table : Table
+  pub blocks : List Block
+  pub place : ℕ
+  pub carries : Carries img x c k v rule table blocks place
+  pub lent : length buffer ≡ length img
+
+pub record Carried (img : List ℕ) (x : Plan) (c : Change) (k v out : List ℕ) : Type 0 where
+  pub image : (r : KeyRule) (t : Table) (bs : List Block) (i : ℕ) → Carries img x c k v r t bs i
+      → out ≡ apply (drawnWith t i bs (changed t i c k v) (x .more) .writes
+      ++ rewrite t i (changed t i c k v) (drawnWith t i bs (changed t i c k v) (x .more) .pages) .writes) img
+
+-- ---- A span rewritten
 
 pub record RewriteReady (img buffer : List ℕ) (root page free : ℕ) (c : Change) (k v : List ℕ) : Type 0 where
   pub rule : KeyRule

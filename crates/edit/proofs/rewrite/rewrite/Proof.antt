@@ -1,7 +1,7 @@
 use borrow.Author.Needs.{needs}
 use native.Mathlib.Omega.{arith}
-use mathlib.Core.Path.{refl, _∙_}
-use Rattle.edit.proofs.Rewritings.{all-few, plan-ready, conts-ready, counted, conts-near, span-near, tower-near, whole-pages, parts-ready, commit-of, no-room, has-room, rewritten}
+use mathlib.Core.Path.{refl}
+use Rattle.edit.proofs.Rewritings.{all-few, plan-ready, conts-ready, counted, conts-near, span-near, tower-near, whole-pages, no-room, carry-ready, rewritten}
 use Rattle.edit.proofs.rewrite.rewrite.Statement.{statement}
 use Rattle.edit.proofs.rewrite.rewrite.Tie as tie
 
@@ -36,41 +36,22 @@ returns c =
     let n = c .before .before .before in
     no-room (n .before .before .make-plan .ensures) _ (n .count-conts .ensures) (c .if1 .taken)
 
-stage-parts-requires : tie.Need-stage-parts-requires
-stage-parts-requires c κs =
+carry-out-requires : tie.Need-carry-out-requires
+carry-out-requires c κs =
     let t = c .before .before in
     let n = t .before .before .before in
     let p = n .before .before in
     let h = p .before .before .before .before .before .before .pre in
-    parts-ready (h .is) (p .make-plan .ensures) (whole-pages h refl (p .make-plan .ensures)) (has-room (p .make-plan .ensures) _ (n .count-conts .ensures) (t .if1 .left) (h .is)) _ (h .lent)
-
-commit-requires : tie.Need-commit-requires
-commit-requires c κs =
-    let g = c .before .before .before .before in
-    let t = g .before .before .before in
-    let n = t .before .before .before in
-    let p = n .before .before in
-    let h = p .before .before .before .before .before .before .pre in
-    record {
-      rule = h .rule;
-      table = h .table;
-      free = h .blocks;
-      place = h .place;
-      entries = _;
-      is = commit-of (h .is) (p .make-plan .ensures) (whole-pages h refl (p .make-plan .ensures))
-          (has-room (p .make-plan .ensures) _ (n .count-conts .ensures) (t .if1 .left) (h .is)) _ (g .stage-parts .kept .1 .0 ∙ h .lent) (g .stage-parts .ensures);
-    }
+    carry-ready (p .make-plan .ensures) _ (n .count-conts .ensures) (t .if1 .left) (whole-pages h refl (p .make-plan .ensures)) _ h
 
 returns-2 : tie.Need-returns-2
 returns-2 c =
     let d = c .before .before .before .before in
-    let g = d .before .before .before .before .before in
-    let t = g .before .before .before in
+    let t = d .before .before .before in
     let n = t .before .before .before in
     let p = n .before .before in
     let h = p .before .before .before .before .before .before .pre in
-    rewritten (p .make-plan .ensures) _ (n .count-conts .ensures) (t .if1 .left) (whole-pages h refl (p .make-plan .ensures)) _ _ (g .stage-parts .kept .1 .0 ∙ h .lent)
-    (g .stage-parts .ensures) (d .commit .ensures)
+    rewritten (p .make-plan .ensures) _ (n .count-conts .ensures) (t .if1 .left) (whole-pages h refl (p .make-plan .ensures)) _ (d .carry-out .ensures)
 
 pub rewrite-spec : {M : Type 1} → statement M
 rewrite-spec =
@@ -84,8 +65,7 @@ rewrite-spec =
     add-if1-3
     (λ c. search needs)
     returns
-    stage-parts-requires
-    commit-requires
+    carry-out-requires
     (λ c. search needs)
     (λ c. search needs)
     returns-2)
