@@ -22,7 +22,14 @@ pub struct Part {
 }
 
 // The first 12 bytes of a span's stream.
-fn put_header(buffer: &mut [u8], word: usize, prev: usize, next: usize, most: usize, size: usize)
+pub fn put_header(
+    buffer: &mut [u8],
+    word: usize,
+    prev: usize,
+    next: usize,
+    most: usize,
+    size: usize,
+)
     requires { ⌜ (4 * word + 12 ≤ length (now buffer)) × (most < 65536) × (size < 65536) ⌝ }
     ensures { λ _. ⌜ now (buffer .exit) ≡ sets (now (buffer .entry)) (4 * word) (header prev next most size) ⌝ }
 {

@@ -5,9 +5,6 @@ use borrow.Author.Needs.{needs}
 use Rattle.pages.proofs.Skips.{Skips, skips-start, skips-next, skips-inside, skips-few, skips-block, skips-listed}
 use Rattle.pages.proofs.free.taken_after.Statement.{statement}
 use Rattle.pages.proofs.free.taken_after.Tie as tie
-use Rattle.pages.proofs.free.taken_after.Reads as reads
-use Rattle.pages.proofs.free.taken_after.Lts as lts
-use Rattle.pages.proofs.read.get32.Reads as get32-reads
 
 abbrev Inv-loop : tie.InvT-loop
 Inv-loop image skip block₀ count₀ left₀ block count left = Skips image skip block count left

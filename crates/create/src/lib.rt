@@ -1,0 +1,59 @@
+// A table created on an accepted image.
+ghost use Rattle.create.specs.Creates.{EnterReady, Entered, CreateReady, Created};
+use draw::list::set_number;
+use edit::plan::make_plan;
+use edit::rewrite::carry_out;
+use edit::shape::count_conts;
+use search::table::METAINDEX;
+use search::table::find_span;
+use stage::change::Change;
+use stage::change::find_spot;
+use table::new_table;
+use table::write_table;
+
+pub mod table;
+
+// Enters the name in the span on `page` of the metaindex by the change, and writes its table, where `free` pages are free. Answers
+// whether there was room; else nothing changes. The table's pages are drawn behind the metaindex's, and a new name leaves no page
+// of its span over: they come from the free list, and are known before anything is written.
+fn enter(
+    image: &mut [u8],
+    scratch: &mut [u8],
+    page: usize,
+    free: usize,
+    change: Change,
+    name: &[u8],
+) -> bool
+    requires { ⌜ EnterReady (now image) (now scratch) page free change (now name) ⌝ }
+    ensures { λ r. ⌜ Entered (now (image .entry)) page free change (now (name .entry)) r (now (image .exit)) ⌝ }
+{
+    let base = image.len() / 1024;
+    let plan = make_plan(image, METAINDEX, page, change, name.len() + 4, 3, base);
+    let old = count_conts(image, page, plan.links.size);
+    let wanted = plan.wants.conts + plan.wants.span + plan.wants.tower;
+    if old + free < wanted + 3 {
+        return false;
+    }
+    let table = new_table(image, wanted - old);
+    let mut value = [0u8; 4];
+    set_number(&mut value, 0, table.root);
+    carry_out(image, scratch, plan, change, name, &value);
+    write_table(image, table);
+    true
+}
+
+// Creates a table of this name, which is allowed and no table has; `free` pages are free. Answers whether there was room; else nothing
+// changes. The scratch is as long as the image.
+pub fn create(image: &mut [u8], scratch: &mut [u8], free: usize, name: &[u8]) -> bool
+    requires { ⌜ CreateReady (now image) (now scratch) free (now name) ⌝ }
+    ensures { λ r. ⌜ Created (now (image .entry)) free (now (name .entry)) r (now (image .exit)) ⌝ }
+{
+    let page = find_span(image, METAINDEX, name);
+    let spot = find_spot(image, page, name);
+    let change = Change {
+        index: spot.index,
+        drops: spot.there,
+        adds: 1,
+    };
+    enter(image, scratch, page, free, change, name)
+}
