@@ -64,6 +64,16 @@ impl Knobs {
         }
     }
 
+    /// Images of 6 to 16 pages with many entries over several pages.
+    pub fn tiny_long() -> Knobs {
+        Knobs {
+            pages: 6..=16,
+            long: 25,
+            crowded: 25,
+            ..Knobs::tiny()
+        }
+    }
+
     /// Some of everything, in images of moderate size.
     pub fn mixed() -> Knobs {
         Knobs {
@@ -117,6 +127,17 @@ impl Knobs {
             long: 1,
             towers: 85,
             ..Knobs::mixed()
+        }
+    }
+
+    /// Images of 12 to 40 pages with many towers and many entries over several pages.
+    pub fn towers_long() -> Knobs {
+        Knobs {
+            pages: 12..=40,
+            long: 25,
+            long_length: 900..=3000,
+            crowded: 25,
+            ..Knobs::full_of_towers()
         }
     }
 
@@ -213,6 +234,23 @@ pub fn full_spans(
     let pages = used(&meta, &tables) + free;
     let layout = number(random, &[span_size], pages, meta, tables);
     let mut image = garbage(random, pages);
+    encode::layout(&mut image, &layout);
+    Sample { image, layout }
+}
+
+/// The image with pages added at its end, which are a first free-list block and the pages that it
+/// lists, so many.
+pub fn with_first_block(random: &mut Random, sample: Sample, count: usize) -> Sample {
+    let Sample {
+        mut image,
+        mut layout,
+    } = sample;
+    let page = layout.pages + 1;
+    layout.pages += 1 + count as u32;
+    let mut listed: Vec<u32> = (page + 1..=layout.pages).collect();
+    random.shuffle(&mut listed);
+    layout.free.insert(0, Block { page, listed });
+    image.extend(garbage(random, 1 + count));
     encode::layout(&mut image, &layout);
     Sample { image, layout }
 }

@@ -2,39 +2,31 @@
 //! that are full, on images with odd free lists and with towers of every height; and what was
 //! reached.
 
-use crate::check::check;
-use crate::encode;
 use crate::entries::{self, Place, MAX_LENGTH};
 use crate::events;
 use crate::generate::{self, Knobs, Sample};
 use crate::layout::{Layout, Span, Table};
-use crate::ledger::{tables_of, Ledger};
 use crate::page::{continuation, MAX_NUMBERS, PAGE};
 use crate::random::Random;
-use crate::request::{Call, Request};
-use crate::script::{self, Script, Trend};
+use crate::reached::{self, held, Cases, Made};
+use crate::request::{Call, CallKind};
+use crate::script::Script;
 use std::cmp::Ordering;
-use std::collections::{BTreeMap, BTreeSet};
+use std::collections::BTreeSet;
 
 /// How many calls a list has.
 const CALLS: usize = 8;
 /// How many calls a list on a large image has.
 const FEW: usize = 2;
 /// The greatest height that a split can give: a table has fewer than 4,096 spans.
-pub const HIGHEST: usize = 11;
+const HIGHEST: usize = 11;
 
-/// How often each case was reached.
-pub type Cases = BTreeMap<String, u64>;
+/// The kinds of call that a list has not.
+const WITHOUT: [CallKind; 2] = [CallKind::Remove, CallKind::Create];
 
-/// All cases, but for the heights of towers.
-pub const ALL: [&str; 36] = [
-    "garbage in unused bytes",
-    "0 bytes left before an entry",
-    "1 bytes left before an entry",
-    "2 bytes left before an entry",
-    "3 bytes left before an entry",
-    "4 bytes left before an entry",
-    "5 bytes left before an entry",
+/// The cases, but for the ends of pages and the heights of towers.
+const FIXED: [&str; 30] = [
+    reached::GARBAGE,
     "the new key over a page end",
     "the new value over a page end",
     "value replaced",
@@ -66,13 +58,19 @@ pub const ALL: [&str; 36] = [
     "page given back past a full block",
 ];
 
+/// All cases: new towers of every height that there can be, beside towers of every height up to 12.
+pub fn all() -> Vec<String> {
+    let new = (0..=HIGHEST).map(new_tower);
+    reached::with_page_ends(&FIXED, new.chain((1..=12).map(beside)))
+}
+
 /// The case of a new tower of this height; 0 is a split with none.
 pub fn new_tower(height: usize) -> String {
     format!("new tower of height {height}")
 }
 
 /// The case of a new tower in a table that has another of this height.
-pub fn beside(height: usize) -> String {
+fn beside(height: usize) -> String {
     format!("beside a tower of height {height}")
 }
 
@@ -80,59 +78,21 @@ pub fn beside(height: usize) -> String {
 pub fn script(seed: u64) -> (Script, Cases) {
     let mut random = Random::new(seed ^ 0x7075_7474_696e_6721);
     let (sample, calls) = image(&mut random);
-    let mut cases = Cases::new();
-    if has_garbage(&sample) {
-        count(&mut cases, "garbage in unused bytes".to_owned());
-    }
-    let mut image = sample.image.clone();
-    let mut layout = sample.layout.clone();
-    let mut ledger = Ledger::new(u64::from(layout.pages), tables_of(&layout));
-    let mut requests = Vec::new();
-    for _ in 0..calls {
-        let request = request(&mut random, &layout, &ledger);
-        let (mut scratch, mut answer) = request.buffers();
-        let number = request.run(&mut image, &mut scratch, &mut answer).number;
-        ledger.feed(&request, number == 10);
-        if let Call::Put { name, key, .. } = &request.call {
-            let after = check(&image).expect("well-formed after every call");
-            for case in of_put(&layout, &after, name, key, number) {
-                count(&mut cases, case);
-            }
-            layout = after;
-        }
-        requests.push(request);
-    }
-    (Script { sample, requests }, cases)
-}
-
-fn count(cases: &mut Cases, case: String) {
-    *cases.entry(case).or_default() += 1;
+    let choose = reached::mostly(put, &WITHOUT);
+    reached::list(&mut random, sample, calls, choose, of_put)
 }
 
 /// An image with the number of calls to make on it.
 fn image(random: &mut Random) -> (Sample, usize) {
-    let small = |knobs: Knobs, span_sizes: &[u16]| Knobs {
-        span_sizes: span_sizes.to_vec(),
-        long: 25,
-        long_length: 900..=3000,
-        crowded: 25,
-        ..knobs
-    };
     let knobs = match random.below(100) {
         0..=7 => return (split_next(random), FEW),
-        8..=11 => return (split_of_128(random), FEW),
+        8..=11 => return (spans_of_128(random), FEW),
         12..=13 => {
             let sample = generate::sample(random, &Knobs::long_free_list());
             return (sample, CALLS / 2);
         }
-        14..=19 => Knobs {
-            pages: 12..=40,
-            ..small(Knobs::full_of_towers(), &[2, 3])
-        },
-        _ => Knobs {
-            pages: 6..=16,
-            ..small(Knobs::tiny(), &[2, 2, 3, 128])
-        },
+        14..=19 => Knobs::towers_long(),
+        _ => Knobs::tiny_long(),
     };
     (generate::sample(random, &knobs), CALLS)
 }
@@ -158,33 +118,10 @@ fn split_next(random: &mut Random) -> Sample {
 }
 
 /// An image with a table of full spans of 128 keys.
-fn split_of_128(random: &mut Random) -> Sample {
+pub fn spans_of_128(random: &mut Random) -> Sample {
     let spans = random.within(1..=3);
     let free = random.below(6);
     generate::full_spans(random, spans, 128, 12, free)
-}
-
-/// Whether bytes that the layout does not say are not 0.
-fn has_garbage(sample: &Sample) -> bool {
-    let mut bare = vec![0; sample.image.len()];
-    encode::layout(&mut bare, &sample.layout);
-    bare != sample.image
-}
-
-/// A call: mostly a put into a span of a table, else any.
-fn request(random: &mut Random, layout: &Layout, ledger: &Ledger) -> Request {
-    let mut request = script::request(random, ledger, Trend::Mixed);
-    let written = matches!(request.call, Call::Remove { .. } | Call::Create { .. });
-    if written || random.percent(60) {
-        if let Some(call) = put(random, layout) {
-            request.call = call;
-            request.answer_length = 0;
-        } else if written {
-            request.call = Call::Check;
-            request.answer_length = 0;
-        }
-    }
-    request
 }
 
 /// A put into a table, if there is one.
@@ -262,49 +199,32 @@ fn to_the_last_page(random: &mut Random, layout: &Layout, span: &Span, at: Place
 }
 
 /// What a put reaches.
-fn of_put(before: &Layout, after: &Layout, name: &[u8], key: &[u8], number: u32) -> Vec<String> {
-    let Some(place) = before.find(name) else {
+fn of_put(made: &Made<'_>) -> Vec<String> {
+    let Call::Put { name, key, .. } = made.call else {
         return Vec::new();
     };
-    let free = before.free_pages();
-    match number {
-        10 if free == 0 => vec!["no room with no page free".to_owned()],
-        10 => vec!["no room with some pages free".to_owned()],
-        0 => {
-            let (old, new) = (&before.tables[place].1, &after.tables[place].1);
-            let mut cases = of_entries(new, key);
-            cases.extend(of_spans(old, new, key));
-            cases.extend(of_free_list(before, after));
-            cases.extend(events::events(before, after).into_iter().map(str::to_owned));
-            cases
-        }
-        _ => Vec::new(),
-    }
-}
-
-/// Where the entries of the key's span lie on its pages.
-fn of_entries(table: &Table, key: &[u8]) -> Vec<String> {
-    let mut cases = Vec::new();
-    let mut place = Place::START;
-    for entry in &table.spans[table.target(key)].entries {
-        if place.left() < 6 {
-            cases.push(format!("{} bytes left before an entry", place.left()));
-        }
-        let key_at = place.lengths().after(4);
-        let value_at = key_at.after(entry.key.len());
-        place = value_at.after(entry.value.len());
-        if entry.key == key && value_at.page > key_at.page {
-            cases.push("the new key over a page end".to_owned());
-        }
-        if entry.key == key && place.page > value_at.page {
-            cases.push("the new value over a page end".to_owned());
-        }
+    let Some(place) = made.before.find(name) else {
+        return Vec::new();
+    };
+    let free = made.before.free_pages();
+    let is_refused = made.number == 10;
+    let mut cases = held(&[
+        ("no room with no page free", is_refused && free == 0),
+        ("no room with some pages free", is_refused && free > 0),
+    ]);
+    if made.number == 0 {
+        let (old, new) = (&made.before.tables[place].1, &made.after.tables[place].1);
+        cases.extend(reached::of_entries(new, key));
+        cases.extend(of_spans(old, new, key));
+        cases.extend(reached::of_taking(made.before, made.after));
+        let events = events::events(made.before, made.after);
+        cases.extend(events.into_iter().map(str::to_owned));
     }
     cases
 }
 
 /// What became of the target span: its value replaced, its keys one more, or split.
-fn of_spans(old: &Table, new: &Table, key: &[u8]) -> Vec<String> {
+pub fn of_spans(old: &Table, new: &Table, key: &[u8]) -> Vec<String> {
     let place = old.target(key);
     let (was, is) = (&old.spans[place], &new.spans[place]);
     if old.value(key).is_some() {
@@ -345,28 +265,7 @@ fn of_split(old: &Table, new: &Table, place: usize) -> Vec<String> {
         cases.extend(heights.into_iter().map(|one| beside(usize::from(one))));
     }
     let drawn = is.continuations.len() + 1 + added.continuations.len() + height.min(1);
-    if drawn <= was.continuations.len() {
-        cases.push("split that takes no page".to_owned());
-    }
-    cases
-}
-
-/// What the free list was like.
-fn of_free_list(before: &Layout, after: &Layout) -> Vec<String> {
-    let mut cases = Vec::new();
-    let (had, has) = (before.free_pages(), after.free_pages());
-    let mut note = |case: &str, holds: bool| {
-        if holds {
-            cases.push(case.to_owned());
-        }
-    };
-    let empty = before.free.first().is_some_and(|one| one.listed.is_empty());
-    note(
-        "page taken from several blocks",
-        has < had && before.free.len() > 1,
-    );
-    note("an empty block taken", has < had && empty);
-    note("the last free page taken", has == 0 && had > 0);
-    note("done with no page free", had == 0);
+    let takes_none = drawn <= was.continuations.len();
+    cases.extend(held(&[("split that takes no page", takes_none)]));
     cases
 }

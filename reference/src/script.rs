@@ -57,6 +57,11 @@ pub fn script_on(random: &mut Random, knobs: &Knobs, calls: usize) -> Script {
 /// One random call on an image whose tables the ledger knows.
 pub fn request(random: &mut Random, ledger: &Ledger, trend: Trend) -> Request {
     let call = call(random, ledger.tables(), trend);
+    with_buffers(random, ledger, call)
+}
+
+/// The call with a scratch and an answer buffer that are mostly long enough.
+pub fn with_buffers(random: &mut Random, ledger: &Ledger, call: Call) -> Request {
     let needed = PAGE * ledger.pages() as usize;
     let scratch_length = match random.below(40) {
         0 => needed - 1,
@@ -95,7 +100,8 @@ fn next_length(map: &Map, key: &[u8]) -> Option<usize> {
         .map(Vec::len)
 }
 
-fn call(random: &mut Random, tables: &Tables, trend: Trend) -> Call {
+/// A call on these tables, of a kind by the trend.
+pub fn call(random: &mut Random, tables: &Tables, trend: Trend) -> Call {
     let weights: [usize; 6] = match trend {
         Trend::Mixed => [5, 20, 35, 20, 15, 5],
         Trend::Filling => [2, 8, 70, 5, 5, 10],

@@ -8,18 +8,18 @@
 
 mod common;
 
+use common::{assert_reached, in_two, Compare};
 use reference::compare::cases::Source;
-use reference::compare::programs::Program;
 use reference::compare::tally::{calls_table, images_table, Tally};
 use reference::compare::{
-    images, lengths, lists, long_lists, present_lengths, put_lists, read_lists,
+    images, lengths, lists, long_lists, present_lengths, put_lists, read_lists, remove_lists,
 };
-use reference::fuzz::Failure;
 use reference::library::LIBRARY;
+use reference::putting;
 use reference::reading::LONGEST;
+use reference::removing;
 use reference::request::CallKind;
 use reference::rule::Rule;
-use std::thread;
 
 /// How many images are checked; every other one is damaged.
 const IMAGES: u64 = 24_000;
@@ -31,29 +31,19 @@ const LONG_LISTS: u64 = 60;
 const READ_LISTS: u64 = 20_000;
 /// How many lists of puts are run.
 const PUT_LISTS: u64 = 20_000;
+/// How many lists of removes are run.
+const REMOVE_LISTS: u64 = 20_000;
 /// How many lengths keys have that are put and read, up to the greatest.
 const PRESENT: u64 = 2_114;
 
-type Compare = fn(&Program, u64, u64) -> Result<Tally, Failure>;
-
-/// Compares the library on `count` seeds from `first` on, in two threads.
-fn in_two(first: u64, count: u64, compare: Compare) -> Tally {
-    let half = count / 2;
-    let run = |seed, count| {
-        let tally = compare(&LIBRARY, seed, count);
-        tally.unwrap_or_else(|failure| panic!("seed {}: {}", failure.seed, failure.what))
-    };
-    thread::scope(|scope| {
-        let other = scope.spawn(|| run(first + half, count - half));
-        let mut tally = run(first, half);
-        tally.add(other.join().expect("no difference"));
-        tally
-    })
+/// Compares the library on `count` seeds from `first` on.
+fn compared(first: u64, count: u64, compare: Compare) -> Tally {
+    in_two(&LIBRARY, first, count, compare)
 }
 
 #[test]
 fn images_are_checked_alike() {
-    let tally = in_two(1, IMAGES, images);
+    let tally = compared(1, IMAGES, images);
     println!("{}", images_table(&tally));
     println!("{}", calls_table(&tally.calls));
     let damaged = |source: &Source| matches!(source, Source::Damaged(_));
@@ -72,8 +62,8 @@ fn images_are_checked_alike() {
 
 #[test]
 fn lists_of_calls_have_the_same_outcome() {
-    let mut tally = in_two(1, LISTS, lists);
-    tally.add(in_two(1, LONG_LISTS, long_lists));
+    let mut tally = compared(1, LISTS, lists);
+    tally.add(compared(1, LONG_LISTS, long_lists));
     println!("{}", calls_table(&tally.calls));
     for kind in CallKind::ALL {
         assert!(tally.calls[&(kind, 0)] > 500, "{kind}");
@@ -82,7 +72,7 @@ fn lists_of_calls_have_the_same_outcome() {
 
 #[test]
 fn gets_and_nexts_have_the_same_outcome() {
-    let tally = in_two(1, READ_LISTS, read_lists);
+    let tally = compared(1, READ_LISTS, read_lists);
     println!("{}", calls_table(&tally.calls));
     for kind in [CallKind::Get, CallKind::Next] {
         for number in [0, 4, 6, 8, 9] {
@@ -93,18 +83,29 @@ fn gets_and_nexts_have_the_same_outcome() {
 
 #[test]
 fn puts_have_the_same_outcome() {
-    let tally = in_two(1, PUT_LISTS, put_lists);
+    let tally = compared(1, PUT_LISTS, put_lists);
     println!("{}", calls_table(&tally.calls));
     for number in [0, 2, 4, 5, 6, 10] {
         let calls = tally.calls[&(CallKind::Put, number)];
         assert!(calls > 100, "put {number}: {calls}");
     }
-    common::puts_reach_every_case(&tally);
+    assert_reached(&tally, &putting::all());
+}
+
+#[test]
+fn removes_have_the_same_outcome() {
+    let tally = compared(1, REMOVE_LISTS, remove_lists);
+    println!("{}", calls_table(&tally.calls));
+    for number in [0, 2, 4, 6, 8] {
+        let calls = tally.calls[&(CallKind::Remove, number)];
+        assert!(calls > 100, "remove {number}: {calls}");
+    }
+    assert_reached(&tally, &removing::all());
 }
 
 #[test]
 fn names_and_keys_of_every_length_have_the_same_outcome() {
-    let tally = in_two(0, LONGEST as u64 + 1, lengths);
+    let tally = compared(0, LONGEST as u64 + 1, lengths);
     println!("{}", calls_table(&tally.calls));
     // a get with each key over 65,535 bytes and with each name over 255
     let too_long = tally.calls[&(CallKind::Get, 4)];
@@ -113,7 +114,7 @@ fn names_and_keys_of_every_length_have_the_same_outcome() {
 
 #[test]
 fn keys_of_many_lengths_are_found() {
-    let tally = in_two(0, PRESENT, present_lengths);
+    let tally = compared(0, PRESENT, present_lengths);
     println!("{}", calls_table(&tally.calls));
     // all that were put; of the answer buffers one in four is short
     assert!(tally.calls[&(CallKind::Get, 0)] > PRESENT);

@@ -2,17 +2,18 @@
 
 mod common;
 
+use common::{assert_reached, in_two};
 use reference::bench::cards::{self, Filling};
 use reference::compare::cases::{case, Source};
 use reference::compare::programs::{Program, REFERENCE, TWIN};
-use reference::compare::tally::Tally;
-use reference::compare::{images, lists, long_lists, put_lists};
+use reference::compare::{images, lists, long_lists, put_lists, remove_lists};
 use reference::generate::{self, Knobs};
 use reference::page::write_u32;
+use reference::putting;
 use reference::random::Random;
+use reference::removing;
 use reference::request::{Call, CallKind, Request};
 use reference::rule::Rule;
-use std::thread;
 
 #[test]
 fn images_are_checked_alike() {
@@ -120,11 +121,12 @@ fn every_field_of_small_images_set_anew() {
 
 #[test]
 fn lists_of_puts() {
-    let halves = [1, 5_001].map(|seed| thread::spawn(move || put_lists(&TWIN, seed, 5_000)));
-    let mut tally = Tally::default();
-    for half in halves {
-        let half = half.join().expect("a tally");
-        tally.add(half.unwrap_or_else(|failure| panic!("seed {}: {}", failure.seed, failure.what)));
-    }
-    common::puts_reach_every_case(&tally);
+    let tally = in_two(&TWIN, 1, 10_000, put_lists);
+    assert_reached(&tally, &putting::all());
+}
+
+#[test]
+fn lists_of_removes() {
+    let tally = in_two(&TWIN, 1, 10_000, remove_lists);
+    assert_reached(&tally, &removing::all());
 }

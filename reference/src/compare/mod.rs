@@ -13,7 +13,9 @@ use crate::ledger::{tables_of, Ledger, Said};
 use crate::page::pages_of;
 use crate::putting;
 use crate::random::Random;
+use crate::reached::Cases;
 use crate::reading;
+use crate::removing;
 use crate::request::Request;
 use crate::script::{self, Script};
 use programs::{Outcome, Program, REFERENCE};
@@ -102,14 +104,13 @@ pub fn present_lengths(program: &Program, first: u64, count: u64) -> Result<Tall
 /// Runs `count` lists of puts among gets, nexts and checks by both programs, for the seeds from
 /// `seed` on, and counts what they reach.
 pub fn put_lists(program: &Program, seed: u64, count: u64) -> Result<Tally, Failure> {
-    let mut tally = Tally::default();
-    for seed in seeds(seed, count) {
-        let (script, cases) = putting::script(seed);
-        let failure = |what| Failure { seed, what };
-        list(program, &script, &mut tally.calls).map_err(failure)?;
-        add_all(&mut tally.cases, cases);
-    }
-    Ok(tally)
+    aimed_lists(program, seeds(seed, count), putting::script)
+}
+
+/// Runs `count` lists of removes among puts, gets, nexts and checks by both programs, for the seeds
+/// from `seed` on, and counts what they reach.
+pub fn remove_lists(program: &Program, seed: u64, count: u64) -> Result<Tally, Failure> {
+    aimed_lists(program, seeds(seed, count), removing::script)
 }
 
 /// `count` seeds from the first one on.
@@ -123,10 +124,21 @@ fn all_lists(
     seeds: impl Iterator<Item = u64>,
     script: impl Fn(u64) -> Script,
 ) -> Result<Tally, Failure> {
+    aimed_lists(program, seeds, |seed| (script(seed), Cases::new()))
+}
+
+/// Runs the lists of these seeds by both programs, and counts what they reach.
+fn aimed_lists(
+    program: &Program,
+    seeds: impl Iterator<Item = u64>,
+    script: impl Fn(u64) -> (Script, Cases),
+) -> Result<Tally, Failure> {
     let mut tally = Tally::default();
     for seed in seeds {
+        let (script, cases) = script(seed);
         let failure = |what| Failure { seed, what };
-        list(program, &script(seed), &mut tally.calls).map_err(failure)?;
+        list(program, &script, &mut tally.calls).map_err(failure)?;
+        add_all(&mut tally.cases, cases);
     }
     Ok(tally)
 }

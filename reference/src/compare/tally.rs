@@ -1,7 +1,7 @@
 //! What was compared, and tables of it.
 
 use super::cases::Source;
-use crate::putting::Cases;
+use crate::reached::Cases;
 use crate::request::CallKind;
 use std::collections::BTreeMap;
 use std::fmt::Display;
@@ -18,7 +18,7 @@ pub struct Tally {
     /// Images by P, with 0 for a length that no image has.
     pub sizes: BTreeMap<u32, u64>,
     pub calls: Called,
-    /// What lists of puts reached.
+    /// What aimed lists reached.
     pub cases: Cases,
 }
 

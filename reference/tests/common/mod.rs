@@ -3,9 +3,11 @@
 
 use reference::calls::{self, Answer};
 use reference::check::check;
+use reference::compare::programs::Program;
 use reference::compare::tally::Tally;
+use reference::fuzz::Failure;
 use reference::layout::{Layout, Table};
-use reference::putting;
+use std::thread;
 
 /// Writes bytes at an offset of a page.
 pub fn write(image: &mut [u8], page: usize, offset: usize, bytes: &[u8]) {
@@ -115,15 +117,31 @@ pub fn pages_changed(before: &[u8], after: &[u8]) -> Vec<usize> {
         .collect()
 }
 
-/// Whether lists of puts reached every case, and new towers of every height that there can be, beside
-/// towers of every height up to 12.
-pub fn puts_reach_every_case(tally: &Tally) {
-    let fixed = putting::ALL.iter().map(|case| (*case).to_owned());
-    let new = (0..=putting::HIGHEST).map(putting::new_tower);
-    let beside = (1..=12).map(putting::beside);
-    for case in fixed.chain(new).chain(beside) {
-        let count = tally.cases.get(&case).copied().unwrap_or(0);
-        println!("{case:40}{count:>8}");
-        assert!(count > 0, "{case}");
+/// Lists or images of so many seeds, from the first on, by the reference and another program.
+pub type Compare = fn(&Program, u64, u64) -> Result<Tally, Failure>;
+
+/// Compares a program on `count` seeds from `first` on, in two threads.
+pub fn in_two(program: &Program, first: u64, count: u64, compare: Compare) -> Tally {
+    let half = count / 2;
+    let run = |seed, count| {
+        let tally = compare(program, seed, count);
+        tally.unwrap_or_else(|failure| panic!("seed {}: {}", failure.seed, failure.what))
+    };
+    thread::scope(|scope| {
+        let other = scope.spawn(|| run(first + half, count - half));
+        let mut tally = run(first, half);
+        tally.add(other.join().expect("no difference"));
+        tally
+    })
+}
+
+/// Whether aimed lists reached each of these cases.
+pub fn assert_reached(tally: &Tally, cases: &[String]) {
+    let count = |case: &String| tally.cases.get(case).copied().unwrap_or(0);
+    for case in cases {
+        println!("{case:56}{:>8}", count(case));
+    }
+    for case in cases {
+        assert!(count(case) > 0, "{case}");
     }
 }
