@@ -142,6 +142,14 @@ fn wanted(plan: &Plan) -> usize {
     entries::continuations(&plan.lower) + split
 }
 
+/// By how many a create's "wanted pages exceed the old continuation pages plus F"; 0 where there is
+/// room.
+pub fn create_lacks(layout: &Layout, name: &[u8]) -> usize {
+    let plan = plan_put(&layout.meta, name, &[0; 4]);
+    let old = layout.meta.spans[plan.place].continuations.len();
+    (wanted(&plan) + NEW_TABLE).saturating_sub(old + layout.free_pages())
+}
+
 /// "They are drawn first from the span's old continuation pages in chain order, then by taking."
 /// `more` pages are wanted beyond the plan's.
 fn draw(

@@ -87,6 +87,7 @@ fn compare(other: &str, seed: &str, count: &str) -> Result<(), String> {
     tally.add(compare::read_lists(&other, seed, count).map_err(failed)?);
     tally.add(compare::put_lists(&other, seed, count).map_err(failed)?);
     tally.add(compare::remove_lists(&other, seed, count).map_err(failed)?);
+    tally.add(compare::create_lists(&other, seed, count).map_err(failed)?);
     print!("{}", tally::images_table(&tally));
     print!("{}", tally::calls_table(&tally.calls));
     println!("{count} passed, 0 failed");

@@ -139,14 +139,18 @@ fn put(random: &mut Random, layout: &Layout) -> Option<Call> {
     })
 }
 
-/// A key of a span, or one behind it; any for an empty span. Spans with the most keys are chosen more
-/// often.
-fn some_key(random: &mut Random, table: &Table) -> Vec<u8> {
+/// A span of a table. Those with the most keys are chosen more often.
+pub fn crowded_span<'a>(random: &mut Random, table: &'a Table) -> &'a Span {
     let most = table.spans.iter().map(|span| span.entries.len()).max();
     let least = if random.percent(60) { most } else { Some(0) };
     let fits = |span: &&Span| Some(span.entries.len()) >= least;
     let spans: Vec<&Span> = table.spans.iter().filter(fits).collect();
-    let entries = &spans[random.below(spans.len())].entries;
+    spans[random.below(spans.len())]
+}
+
+/// A key of a span, or one behind it; any for an empty span.
+fn some_key(random: &mut Random, table: &Table) -> Vec<u8> {
+    let entries = &crowded_span(random, table).entries;
     if entries.is_empty() {
         return generate::key(random, &Knobs::tiny());
     }

@@ -89,6 +89,18 @@ impl Call {
         }
     }
 
+    /// The name of the table; check has none.
+    pub fn name(&self) -> Option<&[u8]> {
+        match self {
+            Call::Check => None,
+            Call::Get { name, .. }
+            | Call::Put { name, .. }
+            | Call::Remove { name, .. }
+            | Call::Next { name, .. }
+            | Call::Create { name } => Some(name),
+        }
+    }
+
     /// Whether the call may change the image.
     pub fn changes(&self) -> bool {
         matches!(

@@ -1,9 +1,13 @@
 //! A program that is wrong in one thing is found out.
 
 use reference::calls::Answer;
-use reference::compare::programs::{Program, TWIN};
-use reference::compare::{images, lengths, lists, present_lengths, put_lists, read_lists};
+use reference::check::check;
+use reference::compare::programs::{Program, RemoveCall, TWIN};
+use reference::compare::{
+    create_lists, images, lengths, lists, present_lengths, put_lists, read_lists, remove_lists,
+};
 use reference::entries::MAX_LENGTH;
+use reference::page::{bytes_mut, listed_number, tower, write_u16, write_u32};
 use reference::twin;
 
 /// What is found on some images and lists.
@@ -162,22 +166,107 @@ fn an_exact_buffer_that_is_refused() {
     assert!(found.contains("number: 9"), "{found}");
 }
 
+/// Makes a change by the twin, but refuses with 10 where it would take the last free page.
+fn unless_last(
+    image: &mut [u8],
+    scratch: &mut [u8],
+    change: impl Fn(&mut [u8], &mut [u8]) -> Answer,
+) -> Answer {
+    let had = twin::check(image, scratch).free;
+    let mut copy = image.to_vec();
+    let answer = change(&mut copy, scratch);
+    let left = twin::check(&copy, scratch).free;
+    if answer.number == 0 && left == 0 && had > 0 {
+        return Answer {
+            number: 10,
+            ..Answer::default()
+        };
+    }
+    image.copy_from_slice(&copy);
+    answer
+}
+
 #[test]
 fn a_last_page_that_is_not_taken() {
     let put = |image: &mut [u8], scratch: &mut [u8], name: &[u8], key: &[u8], value: &[u8]| {
-        let mut copy = image.to_vec();
-        let answer = twin::put(&mut copy, scratch, name, key, value);
-        let left = twin::check(&copy, scratch).free;
-        if answer.number == 0 && left == 0 && copy[16..20] != image[16..20] {
-            return Answer {
-                number: 10,
-                ..Answer::default()
-            };
-        }
-        image.copy_from_slice(&copy);
-        answer
+        unless_last(image, scratch, |image, scratch| {
+            twin::put(image, scratch, name, key, value)
+        })
     };
     let put = Some(put as _);
     let found = put_lists(&Program { put, ..TWIN }, 1, 300).expect_err("a difference");
     assert!(found.what.contains("number: 10"), "{}", found.what);
+}
+
+#[test]
+fn the_last_pages_that_no_create_takes() {
+    let create = |image: &mut [u8], scratch: &mut [u8], name: &[u8]| {
+        unless_last(image, scratch, |image, scratch| {
+            twin::create(image, scratch, name)
+        })
+    };
+    let create = Some(create as _);
+    let found = create_lists(&Program { create, ..TWIN }, 1, 300).expect_err("a difference");
+    assert!(found.what.contains("number: 10"), "{}", found.what);
+}
+
+/// What is found of a wrong remove on lists of removes.
+fn found_removing(remove: RemoveCall) -> String {
+    let remove = Some(remove);
+    let found = remove_lists(&Program { remove, ..TWIN }, 1, 600);
+    found.expect_err("a difference").what
+}
+
+#[test]
+fn a_head_that_falls_with_its_highest_tower() {
+    let found = found_removing(|image, scratch, name, key| {
+        let answer = twin::remove(image, scratch, name, key);
+        for (_, table) in check(image).map_or(Vec::new(), |layout| layout.tables) {
+            let highest = table.towers().map(|tower| tower.height).max();
+            if let Some(height) = highest.filter(|_| answer.number == 0) {
+                write_u16(image, table.head.page, tower::CURRENT, height);
+            }
+        }
+        answer
+    });
+    assert!(found.contains("image"), "{found}");
+}
+
+#[test]
+fn a_given_page_that_is_cleared() {
+    let found = found_removing(|image, scratch, name, key| {
+        let before = check(image).map_or(Vec::new(), |layout| layout.free);
+        let answer = twin::remove(image, scratch, name, key);
+        let after = check(image).map_or(Vec::new(), |layout| layout.free);
+        let were: Vec<u32> = before.iter().flat_map(|one| one.listed.clone()).collect();
+        for page in after.iter().flat_map(|one| &one.listed) {
+            if !were.contains(page) {
+                bytes_mut(image, *page)[8..].fill(0);
+            }
+        }
+        answer
+    });
+    assert!(found.contains("image"), "{found}");
+}
+
+/// Gives the pages of a span back in another order: the last two change places in the free list.
+#[test]
+fn pages_given_back_in_another_order() {
+    let found = found_removing(|image, scratch, name, key| {
+        let had = twin::check(image, scratch).free;
+        let answer = twin::remove(image, scratch, name, key);
+        let blocks = check(image).map_or(Vec::new(), |layout| layout.free);
+        let given = twin::check(image, scratch).free - had;
+        if let Some(block) = blocks
+            .first()
+            .filter(|one| given > 1 && one.listed.len() > 1)
+        {
+            let last = block.listed.len() - 1;
+            let (one, other) = (block.listed[last], block.listed[last - 1]);
+            write_u32(image, block.page, listed_number(last), other);
+            write_u32(image, block.page, listed_number(last - 1), one);
+        }
+        answer
+    });
+    assert!(found.contains("image"), "{found}");
 }

@@ -12,8 +12,10 @@ use common::{assert_reached, in_two, Compare};
 use reference::compare::cases::Source;
 use reference::compare::tally::{calls_table, images_table, Tally};
 use reference::compare::{
-    images, lengths, lists, long_lists, present_lengths, put_lists, read_lists, remove_lists,
+    create_lists, images, lengths, lists, long_lists, present_lengths, put_lists, read_lists,
+    remove_lists,
 };
+use reference::creating;
 use reference::library::LIBRARY;
 use reference::putting;
 use reference::reading::LONGEST;
@@ -33,6 +35,8 @@ const READ_LISTS: u64 = 20_000;
 const PUT_LISTS: u64 = 20_000;
 /// How many lists of removes are run.
 const REMOVE_LISTS: u64 = 20_000;
+/// How many lists are run that create tables and then use them.
+const CREATE_LISTS: u64 = 50_000;
 /// How many lengths keys have that are put and read, up to the greatest.
 const PRESENT: u64 = 2_114;
 
@@ -101,6 +105,20 @@ fn removes_have_the_same_outcome() {
         assert!(calls > 100, "remove {number}: {calls}");
     }
     assert_reached(&tally, &removing::all());
+}
+
+#[test]
+fn tables_created_and_used_have_the_same_outcome() {
+    let tally = compared(1, CREATE_LISTS, create_lists);
+    println!("{}", calls_table(&tally.calls));
+    for kind in CallKind::ALL {
+        assert!(tally.calls[&(kind, 0)] > 10_000, "{kind}");
+    }
+    for number in [0, 2, 4, 7, 10] {
+        let calls = tally.calls[&(CallKind::Create, number)];
+        assert!(calls > 1_000, "create {number}: {calls}");
+    }
+    assert_reached(&tally, &creating::all());
 }
 
 #[test]

@@ -6,7 +6,8 @@ use common::{assert_reached, in_two};
 use reference::bench::cards::{self, Filling};
 use reference::compare::cases::{case, Source};
 use reference::compare::programs::{Program, REFERENCE, TWIN};
-use reference::compare::{images, lists, long_lists, put_lists, remove_lists};
+use reference::compare::{create_lists, images, lists, long_lists, put_lists, remove_lists};
+use reference::creating;
 use reference::generate::{self, Knobs};
 use reference::page::write_u32;
 use reference::putting;
@@ -129,4 +130,10 @@ fn lists_of_puts() {
 fn lists_of_removes() {
     let tally = in_two(&TWIN, 1, 10_000, remove_lists);
     assert_reached(&tally, &removing::all());
+}
+
+#[test]
+fn lists_over_all_calls() {
+    let tally = in_two(&TWIN, 1, 10_000, create_lists);
+    assert_reached(&tally, &creating::all());
 }

@@ -7,6 +7,7 @@ pub mod tally;
 
 use crate::calls::Answer;
 use crate::check::check;
+use crate::creating;
 use crate::fuzz::{Failure, CALLS};
 use crate::generate::Knobs;
 use crate::ledger::{tables_of, Ledger, Said};
@@ -111,6 +112,12 @@ pub fn put_lists(program: &Program, seed: u64, count: u64) -> Result<Tally, Fail
 /// from `seed` on, and counts what they reach.
 pub fn remove_lists(program: &Program, seed: u64, count: u64) -> Result<Tally, Failure> {
     aimed_lists(program, seeds(seed, count), removing::script)
+}
+
+/// Runs `count` lists over all six calls by both programs, for the seeds from `seed` on, and counts
+/// what they reach.
+pub fn create_lists(program: &Program, seed: u64, count: u64) -> Result<Tally, Failure> {
+    aimed_lists(program, seeds(seed, count), creating::script)
 }
 
 /// `count` seeds from the first one on.
