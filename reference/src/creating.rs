@@ -47,31 +47,6 @@ const CREATES: [&str; 15] = [
     "head raised by 2 or more",
 ];
 
-/// The cases of a name that joins the metaindex, as those of a key that joins a table.
-const NAMES: [&str; 21] = [
-    "0 bytes left before an entry",
-    "1 bytes left before an entry",
-    "2 bytes left before an entry",
-    "3 bytes left before an entry",
-    "4 bytes left before an entry",
-    "5 bytes left before an entry",
-    "the new key over a page end",
-    "the new value over a page end",
-    "key joined an empty span",
-    "key joined a span of 2",
-    "key joined a span of 3",
-    "key joined a span of 128",
-    "split of a span of 2",
-    "split of a span of 3",
-    "split of a span of 128",
-    "split of the last span",
-    "split of another span",
-    "head of max height 1",
-    "head of max height 3",
-    "head of max height 12",
-    "head of max height 252",
-];
-
 /// The cases of tables that the list itself created.
 const LIVES: [&str; 25] = [
     "check after a create",
@@ -104,9 +79,10 @@ const LIVES: [&str; 25] = [
 /// All cases.
 pub fn all() -> Vec<String> {
     let fixed = CREATES.iter().chain(&LIVES).map(|case| (*case).to_owned());
-    let names = NAMES.iter().map(|case| in_metaindex(case));
-    let towers = (0..=HIGHEST).map(|height| in_metaindex(&putting::new_tower(height)));
-    fixed.chain(names).chain(towers).collect()
+    let towers = (0..=HIGHEST).map(putting::new_tower);
+    let names = reached::with_page_ends(&putting::JOINING, towers);
+    let names = names.iter().map(|case| in_metaindex(case));
+    fixed.chain(names).collect()
 }
 
 /// The case of a create that is this case of a put.

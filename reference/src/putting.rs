@@ -24,15 +24,10 @@ const HIGHEST: usize = 11;
 /// The kinds of call that a list has not.
 const WITHOUT: [CallKind; 2] = [CallKind::Remove, CallKind::Create];
 
-/// The cases, but for the ends of pages and the heights of towers.
-const FIXED: [&str; 30] = [
-    reached::GARBAGE,
+/// The cases of a key that joins a table, but for the ends of pages and the heights of towers.
+pub const JOINING: [&str; 14] = [
     "the new key over a page end",
     "the new value over a page end",
-    "value replaced",
-    "value replaced on fewer pages",
-    "value replaced on as many pages",
-    "value replaced on more pages",
     "key joined an empty span",
     "key joined a span of 2",
     "key joined a span of 3",
@@ -42,13 +37,22 @@ const FIXED: [&str; 30] = [
     "split of a span of 128",
     "split of the last span",
     "split of another span",
+    "head of max height 1",
+    "head of max height 3",
+    "head of max height 252",
+];
+
+/// The other cases, but for the heights of towers.
+const OTHERS: [&str; 16] = [
+    reached::GARBAGE,
+    "value replaced",
+    "value replaced on fewer pages",
+    "value replaced on as many pages",
+    "value replaced on more pages",
     "split that takes no page",
     "old continuation became span",
     "head raised by 2 or more",
     "new tower between others",
-    "head of max height 1",
-    "head of max height 3",
-    "head of max height 252",
     "page taken from several blocks",
     "an empty block taken",
     "the last free page taken",
@@ -61,7 +65,9 @@ const FIXED: [&str; 30] = [
 /// All cases: new towers of every height that there can be, beside towers of every height up to 12.
 pub fn all() -> Vec<String> {
     let new = (0..=HIGHEST).map(new_tower);
-    reached::with_page_ends(&FIXED, new.chain((1..=12).map(beside)))
+    let others = OTHERS.iter().map(|case| (*case).to_owned());
+    let more = others.chain(new).chain((1..=12).map(beside));
+    reached::with_page_ends(&JOINING, more)
 }
 
 /// The case of a new tower of this height; 0 is a split with none.

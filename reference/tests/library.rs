@@ -45,6 +45,14 @@ fn compared(first: u64, count: u64, compare: Compare) -> Tally {
     in_two(&LIBRARY, first, count, compare)
 }
 
+/// Calls of this kind were answered with each of these numbers, more often than `least` times.
+fn assert_answered(tally: &Tally, kind: CallKind, numbers: &[u32], least: u64) {
+    for &number in numbers {
+        let calls = tally.calls.get(&(kind, number)).copied().unwrap_or(0);
+        assert!(calls > least, "{kind} {number}: {calls}");
+    }
+}
+
 #[test]
 fn images_are_checked_alike() {
     let tally = compared(1, IMAGES, images);
@@ -70,7 +78,7 @@ fn lists_of_calls_have_the_same_outcome() {
     tally.add(compared(1, LONG_LISTS, long_lists));
     println!("{}", calls_table(&tally.calls));
     for kind in CallKind::ALL {
-        assert!(tally.calls[&(kind, 0)] > 500, "{kind}");
+        assert_answered(&tally, kind, &[0], 500);
     }
 }
 
@@ -79,9 +87,7 @@ fn gets_and_nexts_have_the_same_outcome() {
     let tally = compared(1, READ_LISTS, read_lists);
     println!("{}", calls_table(&tally.calls));
     for kind in [CallKind::Get, CallKind::Next] {
-        for number in [0, 4, 6, 8, 9] {
-            assert!(tally.calls[&(kind, number)] > 500, "{kind} {number}");
-        }
+        assert_answered(&tally, kind, &[0, 4, 6, 8, 9], 500);
     }
 }
 
@@ -89,10 +95,7 @@ fn gets_and_nexts_have_the_same_outcome() {
 fn puts_have_the_same_outcome() {
     let tally = compared(1, PUT_LISTS, put_lists);
     println!("{}", calls_table(&tally.calls));
-    for number in [0, 2, 4, 5, 6, 10] {
-        let calls = tally.calls[&(CallKind::Put, number)];
-        assert!(calls > 100, "put {number}: {calls}");
-    }
+    assert_answered(&tally, CallKind::Put, &[0, 2, 4, 5, 6, 10], 100);
     assert_reached(&tally, &putting::all());
 }
 
@@ -100,10 +103,7 @@ fn puts_have_the_same_outcome() {
 fn removes_have_the_same_outcome() {
     let tally = compared(1, REMOVE_LISTS, remove_lists);
     println!("{}", calls_table(&tally.calls));
-    for number in [0, 2, 4, 6, 8] {
-        let calls = tally.calls[&(CallKind::Remove, number)];
-        assert!(calls > 100, "remove {number}: {calls}");
-    }
+    assert_answered(&tally, CallKind::Remove, &[0, 2, 4, 6, 8], 100);
     assert_reached(&tally, &removing::all());
 }
 
@@ -112,12 +112,9 @@ fn tables_created_and_used_have_the_same_outcome() {
     let tally = compared(1, CREATE_LISTS, create_lists);
     println!("{}", calls_table(&tally.calls));
     for kind in CallKind::ALL {
-        assert!(tally.calls[&(kind, 0)] > 10_000, "{kind}");
+        assert_answered(&tally, kind, &[0], 10_000);
     }
-    for number in [0, 2, 4, 7, 10] {
-        let calls = tally.calls[&(CallKind::Create, number)];
-        assert!(calls > 1_000, "create {number}: {calls}");
-    }
+    assert_answered(&tally, CallKind::Create, &[0, 2, 4, 7, 10], 1_000);
     assert_reached(&tally, &creating::all());
 }
 
