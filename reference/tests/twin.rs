@@ -72,17 +72,8 @@ fn checked(image: &[u8]) -> u32 {
 
 #[test]
 fn images_of_the_benchmark() {
-    let fillings = [
-        Filling::ManySmall,
-        Filling::FullSpans,
-        Filling::FewLarge,
-        Filling::LongKeys,
-        Filling::Towers,
-        Filling::Tables,
-        Filling::Free,
-    ];
     for pages in [8, 100, 256, 1000] {
-        for filling in fillings {
+        for filling in Filling::ALL {
             let image = cards::sample(filling, pages, pages).image;
             assert_eq!(checked(&image), 0, "{} {pages}", filling.name());
         }

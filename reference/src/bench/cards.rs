@@ -17,6 +17,12 @@ pub enum Filling {
     ManySmall,
     /// The same with spans of 126 keys at most, all of them full.
     FullSpans,
+    /// The same with keys of 16 bytes, of which the first eight are the same.
+    SharedPrefixes,
+    /// Spans of two small entries, with the towers that puts make.
+    SmallSpans,
+    /// Spans of one small entry, with the towers that puts make.
+    SingleKeys,
     /// Values of 65,535 bytes.
     FewLarge,
     /// Keys of 16,000 bytes that differ only at their ends.
@@ -25,20 +31,41 @@ pub enum Filling {
     Towers,
     /// As many empty tables as there is room for.
     Tables,
+    /// The same with spans of 16 names at most, all but the last of them full.
+    FullNames,
     /// Free pages only.
     Free,
 }
 
 impl Filling {
+    /// All fillings.
+    pub const ALL: [Filling; 11] = [
+        Filling::ManySmall,
+        Filling::FullSpans,
+        Filling::SharedPrefixes,
+        Filling::SmallSpans,
+        Filling::SingleKeys,
+        Filling::FewLarge,
+        Filling::LongKeys,
+        Filling::Towers,
+        Filling::Tables,
+        Filling::FullNames,
+        Filling::Free,
+    ];
+
     /// What the rows call it.
     pub fn name(self) -> &'static str {
         match self {
             Filling::ManySmall => "many small entries",
             Filling::FullSpans => "full spans",
+            Filling::SharedPrefixes => "shared prefixes",
+            Filling::SmallSpans => "small spans",
+            Filling::SingleKeys => "spans of one key",
             Filling::FewLarge => "few large entries",
             Filling::LongKeys => "long keys",
             Filling::Towers => "full of towers",
             Filling::Tables => "many tables",
+            Filling::FullNames => "full metaindex",
             Filling::Free => "free pages",
         }
     }
@@ -50,23 +77,40 @@ impl Filling {
 
     /// Entry `place` of the table.
     pub fn entry(self, place: usize) -> Entry {
-        let (key, value) = match self {
-            Filling::ManySmall | Filling::FullSpans | Filling::Towers => (small_key(place), 4),
-            Filling::FewLarge => (small_key(place), MAX_LENGTH),
-            Filling::LongKeys => (long_key(place), 0),
-            Filling::Tables | Filling::Free => (small_key(place), 0),
+        let key = match self {
+            Filling::SharedPrefixes => behind(8, place),
+            Filling::LongKeys => behind(16_000, place),
+            _ => small_key(place),
+        };
+        let value = match self {
+            Filling::FewLarge => MAX_LENGTH,
+            Filling::LongKeys => 0,
+            _ => 4,
         };
         let value = vec![0x5a; value];
         Entry { key, value }
     }
 
-    /// The table's span size and how many entries a span has.
+    /// The span size and how many entries a span has: of the metaindex if there are many tables,
+    /// else of the table.
     fn span_size(self) -> (u16, usize) {
         match self {
-            Filling::ManySmall | Filling::Tables | Filling::Free => (128, 126),
+            Filling::ManySmall | Filling::SharedPrefixes | Filling::Free => (128, 126),
             Filling::FullSpans => (126, 126),
+            Filling::SmallSpans => (4, 2),
+            Filling::SingleKeys => (4, 1),
             Filling::FewLarge | Filling::LongKeys => (4, 3),
             Filling::Towers => (2, 1),
+            Filling::Tables => (128, 60),
+            Filling::FullNames => (16, 16),
+        }
+    }
+
+    /// The table that is filled: with many tables, the metaindex.
+    pub fn table(self, layout: &Layout) -> &Table {
+        match self {
+            Filling::Tables | Filling::FullNames => &layout.meta,
+            _ => &layout.tables[0].1,
         }
     }
 
@@ -93,8 +137,9 @@ pub fn small_key(place: usize) -> Vec<u8> {
     format!("k{:07}", 2 * place).into_bytes()
 }
 
-fn long_key(place: usize) -> Vec<u8> {
-    let mut key = vec![b'k'; 16_000];
+/// Key `place` behind so many bytes that are the same for all.
+fn behind(count: usize, place: usize) -> Vec<u8> {
+    let mut key = vec![b'k'; count];
     key.extend(small_key(place));
     key
 }
@@ -111,11 +156,11 @@ fn tower(max: usize, height: usize) -> Tower {
 pub fn sample(filling: Filling, pages: usize, used: usize) -> Sample {
     let tables = match filling {
         Filling::Free => Vec::new(),
-        Filling::Tables => many_tables(used - 4),
+        Filling::Tables | Filling::FullNames => many_tables(filling, used - 4),
         _ => vec![(NAME.to_vec(), filled(filling, used - 4))],
     };
     let names = tables.iter().map(|(name, _)| name.clone()).collect();
-    place(pages, names_table(names), tables)
+    place(pages, names_table(filling, names), tables)
 }
 
 /// A table that fills at most this many pages, without page numbers.
@@ -175,17 +220,19 @@ fn empty_table(span_size: u16, head: Tower) -> Table {
 }
 
 /// Empty tables on at most this many pages, those of their names counted.
-fn many_tables(budget: usize) -> Vec<(Vec<u8>, Table)> {
-    let count = budget * 20 / 61;
+fn many_tables(filling: Filling, budget: usize) -> Vec<(Vec<u8>, Table)> {
+    let (_, names) = filling.span_size();
+    let count = budget * names / (3 * names + 3);
     let table = || empty_table(16, tower(12, 0));
     let tables = (0..count).map(|place| (small_key(place), table()));
     tables.collect()
 }
 
 /// A metaindex with these names, all with the value 0.
-fn names_table(names: Vec<Vec<u8>>) -> Table {
-    let mut meta = empty_table(128, tower(12, 12));
-    for (at, part) in names.chunks(60).enumerate() {
+fn names_table(filling: Filling, names: Vec<Vec<u8>>) -> Table {
+    let (span_size, fill) = filling.span_size();
+    let mut meta = empty_table(span_size, tower(12, 12));
+    for (at, part) in names.chunks(fill).enumerate() {
         let entry = |name: &Vec<u8>| Entry {
             key: name.clone(),
             value: vec![0; 4],
@@ -303,8 +350,11 @@ fn ring_of_continuations(pages: usize) -> Vec<u8> {
 fn shared_skip_list(pages: usize) -> Vec<u8> {
     let names = (0..60 * (pages - 8)).map(small_key).collect();
     let table = empty_table(16, tower(12, 0));
-    let Sample { mut image, layout } =
-        place(pages, names_table(names), vec![(NAME.to_vec(), table)]);
+    let Sample { mut image, layout } = place(
+        pages,
+        names_table(Filling::Tables, names),
+        vec![(NAME.to_vec(), table)],
+    );
     let root = layout.tables[0].1.root;
     let mut meta = layout.meta.clone();
     for span in &mut meta.spans {

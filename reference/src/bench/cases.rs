@@ -9,8 +9,9 @@ use crate::request::{Call, Request};
 const SIZES: [usize; 3] = [8, 256, 4096];
 
 /// The fillings that are checked.
-const FILLINGS: [Filling; 6] = [
+const FILLINGS: [Filling; 7] = [
     Filling::ManySmall,
+    Filling::SharedPrefixes,
     Filling::FewLarge,
     Filling::LongKeys,
     Filling::Towers,
@@ -64,7 +65,7 @@ pub fn call_cases() -> Vec<Case> {
     for pages in SIZES.into_iter().skip(1) {
         for (filling, free, calls) in CALLS {
             let sample = cards::sample(filling, pages, pages - free);
-            for (name, call) in calls(&sample.layout.tables[0].1) {
+            for (name, call) in calls(filling.table(&sample.layout)) {
                 cases.push(case(name, filling.name(), sample.image.clone(), call));
             }
         }
@@ -72,16 +73,20 @@ pub fn call_cases() -> Vec<Case> {
     cases
 }
 
-/// Calls on a table.
+/// Calls on the table that is filled.
 type CallsOn = fn(&Table) -> Vec<(&'static str, Call)>;
 
 /// What fills an image, about how many pages are free, and the calls to make.
-const CALLS: [(Filling, usize, CallsOn); 5] = [
+const CALLS: [(Filling, usize, CallsOn); 9] = [
     (Filling::ManySmall, 80, small_calls),
     (Filling::FullSpans, 80, split_calls),
+    (Filling::SmallSpans, 80, small_span_calls),
+    (Filling::SingleKeys, 80, emptying_calls),
     (Filling::FewLarge, 80, large_calls),
     (Filling::FewLarge, 0, crowded_calls),
     (Filling::Towers, 80, tower_calls),
+    (Filling::Tables, 80, names_calls),
+    (Filling::FullNames, 80, full_names_calls),
 ];
 
 fn get(key: Vec<u8>) -> Call {
@@ -156,6 +161,29 @@ fn split_calls(table: &Table) -> Vec<(&'static str, Call)> {
     ]
 }
 
+fn small_span_calls(table: &Table) -> Vec<(&'static str, Call)> {
+    let key = cards::small_key(table.keys() / 2);
+    vec![
+        ("check", Call::Check),
+        ("remove, key of a small span", remove(key)),
+    ]
+}
+
+/// Removes of the only keys of spans. The span at an even place has no tower; that at a place before
+/// a power of two has one of the highest.
+fn emptying_calls(table: &Table) -> Vec<(&'static str, Call)> {
+    let key = cards::small_key;
+    let half = table.keys() / 2;
+    let bare = half - half % 2;
+    let towered = half.next_power_of_two() / 2 - 1;
+    vec![
+        ("check", Call::Check),
+        ("remove, first span emptied", remove(key(0))),
+        ("remove, span without tower emptied", remove(key(bare))),
+        ("remove, span with tower emptied", remove(key(towered))),
+    ]
+}
+
 fn large_calls(table: &Table) -> Vec<(&'static str, Call)> {
     let key = cards::small_key;
     vec![
@@ -168,6 +196,7 @@ fn large_calls(table: &Table) -> Vec<(&'static str, Call)> {
         ("put, 65,535 bytes by 4", put(key(0), 4)),
         ("put, new key, 65,535 bytes", put(missing(0), MAX_LENGTH)),
         ("remove 65,535 bytes", remove(key(0))),
+        ("remove last key", remove(last_key(table))),
     ]
 }
 
@@ -187,5 +216,22 @@ fn tower_calls(table: &Table) -> Vec<(&'static str, Call)> {
         ("get last key", get(key(last))),
         ("put, new key, no split", put(missing(keys / 2), 4)),
         ("remove, span unlinked", remove(key(last / 2))),
+        ("remove, last span unlinked", remove(key(last))),
+    ]
+}
+
+fn names_calls(meta: &Table) -> Vec<(&'static str, Call)> {
+    vec![
+        ("check", Call::Check),
+        ("create", create(&missing(meta.keys() / 2))),
+        ("create, there already", create(&last_key(meta))),
+    ]
+}
+
+fn full_names_calls(meta: &Table) -> Vec<(&'static str, Call)> {
+    let name = missing(meta.keys() / 2);
+    vec![
+        ("check", Call::Check),
+        ("create, metaindex split", create(&name)),
     ]
 }
