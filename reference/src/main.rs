@@ -85,9 +85,11 @@ fn compare(other: &str, seed: &str, count: &str) -> Result<(), String> {
     tally.add(compare::lists(&other, seed, count).map_err(failed)?);
     tally.add(compare::long_lists(&other, seed, count.div_ceil(100)).map_err(failed)?);
     tally.add(compare::read_lists(&other, seed, count).map_err(failed)?);
-    tally.add(compare::put_lists(&other, seed, count).map_err(failed)?);
-    tally.add(compare::remove_lists(&other, seed, count).map_err(failed)?);
-    tally.add(compare::create_lists(&other, seed, count).map_err(failed)?);
+    for (lists, cases) in compare::AIMED {
+        let aimed = lists(&other, seed, count).map_err(failed)?;
+        print!("{}", tally::cases_table(&aimed.cases, &cases()));
+        tally.add(aimed);
+    }
     print!("{}", tally::images_table(&tally));
     print!("{}", tally::calls_table(&tally.calls));
     println!("{count} passed, 0 failed");

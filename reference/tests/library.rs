@@ -8,12 +8,12 @@
 
 mod common;
 
-use common::{assert_reached, in_two, Compare};
+use common::{assert_reached, in_two};
 use reference::compare::cases::Source;
 use reference::compare::tally::{calls_table, images_table, Tally};
 use reference::compare::{
     create_lists, images, lengths, lists, long_lists, present_lengths, put_lists, read_lists,
-    remove_lists,
+    remove_lists, Compare,
 };
 use reference::creating;
 use reference::library::LIBRARY;

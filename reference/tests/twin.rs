@@ -6,13 +6,10 @@ use common::{assert_reached, in_two};
 use reference::bench::cards::{self, Filling};
 use reference::compare::cases::{case, Source};
 use reference::compare::programs::{Program, REFERENCE, TWIN};
-use reference::compare::{create_lists, images, lists, long_lists, put_lists, remove_lists};
-use reference::creating;
+use reference::compare::{images, lists, long_lists, AIMED};
 use reference::generate::{self, Knobs};
 use reference::page::write_u32;
-use reference::putting;
 use reference::random::Random;
-use reference::removing;
 use reference::request::{Call, CallKind, Request};
 use reference::rule::Rule;
 
@@ -112,19 +109,9 @@ fn every_field_of_small_images_set_anew() {
 }
 
 #[test]
-fn lists_of_puts() {
-    let tally = in_two(&TWIN, 1, 10_000, put_lists);
-    assert_reached(&tally, &putting::all());
-}
-
-#[test]
-fn lists_of_removes() {
-    let tally = in_two(&TWIN, 1, 10_000, remove_lists);
-    assert_reached(&tally, &removing::all());
-}
-
-#[test]
-fn lists_over_all_calls() {
-    let tally = in_two(&TWIN, 1, 10_000, create_lists);
-    assert_reached(&tally, &creating::all());
+fn aimed_lists_have_the_same_outcome() {
+    for (lists, cases) in AIMED {
+        let tally = in_two(&TWIN, 1, 10_000, lists);
+        assert_reached(&tally, &cases());
+    }
 }

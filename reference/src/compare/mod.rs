@@ -22,6 +22,19 @@ use crate::script::{self, Script};
 use programs::{Outcome, Program, REFERENCE};
 use tally::{add_all, Called, Tally};
 
+/// A comparison of both programs on `count` seeds from `seed` on.
+pub type Compare = fn(&Program, u64, u64) -> Result<Tally, Failure>;
+
+/// All cases of a kind of aimed list.
+pub type AllCases = fn() -> Vec<String>;
+
+/// The comparisons on aimed lists, each with the cases that enough lists reach.
+pub const AIMED: [(Compare, AllCases); 3] = [
+    (put_lists, putting::all),
+    (remove_lists, removing::all),
+    (create_lists, creating::all),
+];
+
 /// Checks `count` images by both programs, for the seeds from `seed` on, and makes another call on
 /// each.
 pub fn images(program: &Program, seed: u64, count: u64) -> Result<Tally, Failure> {

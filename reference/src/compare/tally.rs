@@ -89,3 +89,10 @@ pub fn calls_table(called: &Called) -> String {
     }
     lines.join("\n") + "\n"
 }
+
+/// How often each of these cases was reached, as a table.
+pub fn cases_table(reached: &Cases, cases: &[String]) -> String {
+    let count = |case: &String| reached.get(case).copied().unwrap_or(0);
+    let line = |case: &String| format!("{case:56}{:>8}\n", count(case));
+    cases.iter().map(line).collect()
+}

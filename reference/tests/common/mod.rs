@@ -4,8 +4,8 @@
 use reference::calls::{self, Answer};
 use reference::check::check;
 use reference::compare::programs::Program;
-use reference::compare::tally::Tally;
-use reference::fuzz::Failure;
+use reference::compare::tally::{cases_table, Tally};
+use reference::compare::Compare;
 use reference::layout::{Layout, Table};
 use std::thread;
 
@@ -117,9 +117,6 @@ pub fn pages_changed(before: &[u8], after: &[u8]) -> Vec<usize> {
         .collect()
 }
 
-/// Lists or images of so many seeds, from the first on, by the reference and another program.
-pub type Compare = fn(&Program, u64, u64) -> Result<Tally, Failure>;
-
 /// Compares a program on `count` seeds from `first` on, in two threads.
 pub fn in_two(program: &Program, first: u64, count: u64, compare: Compare) -> Tally {
     let half = count / 2;
@@ -137,11 +134,8 @@ pub fn in_two(program: &Program, first: u64, count: u64, compare: Compare) -> Ta
 
 /// Whether aimed lists reached each of these cases.
 pub fn assert_reached(tally: &Tally, cases: &[String]) {
-    let count = |case: &String| tally.cases.get(case).copied().unwrap_or(0);
+    println!("{}", cases_table(&tally.cases, cases));
     for case in cases {
-        println!("{case:56}{:>8}", count(case));
-    }
-    for case in cases {
-        assert!(count(case) > 0, "{case}");
+        assert!(tally.cases.contains_key(case), "{case}");
     }
 }
