@@ -4,9 +4,12 @@ mod common;
 
 use common::{assert_reached, in_two};
 use reference::bench::cards::{self, Filling};
+use reference::bench::cases::call_cases;
+use reference::check::check;
 use reference::compare::cases::{case, Source};
 use reference::compare::programs::{Program, REFERENCE, TWIN};
 use reference::compare::{images, lists, long_lists, AIMED};
+use reference::events;
 use reference::generate::{self, Knobs};
 use reference::page::write_u32;
 use reference::random::Random;
@@ -79,6 +82,38 @@ fn images_of_the_benchmark() {
         for (name, image) in cards::hostile(pages) {
             assert_eq!(checked(&image), 3, "{name} {pages}");
         }
+    }
+}
+
+/// Rows of the benchmark, each with an event that its call has to show.
+const ROWS: [(&str, &str); 8] = [
+    ("put, new key, split", "split"),
+    ("remove 65,535 bytes", "page given back"),
+    ("remove, first span emptied", "first span emptied"),
+    ("remove, span without tower emptied", "span unlinked"),
+    ("remove, span with tower emptied", "tower unlinked"),
+    (
+        "remove, span unlinked",
+        "tower of height 2 or more unlinked",
+    ),
+    ("remove, last span unlinked", "tower unlinked"),
+    ("create, metaindex split", "split of the metaindex"),
+];
+
+#[test]
+fn calls_of_the_benchmark_do_what_their_rows_say() {
+    let cases = call_cases();
+    for (row, event) in ROWS {
+        let mut of_row = cases.iter().filter(|case| case.call == row);
+        let case = of_row.next().expect("a case of every row");
+        let outcome = REFERENCE.run(&case.image, &case.request).expect("a call");
+        let layout = |image: &[u8]| check(image).expect("well-formed");
+        let events = events::events(&layout(&case.image), &layout(&outcome.image));
+        assert!(events.contains(&event), "{row}");
+        assert!(
+            !row.contains("without tower") || !events.contains(&"tower unlinked"),
+            "{row}"
+        );
     }
 }
 

@@ -2,7 +2,7 @@
 //! in the same rounds.
 
 pub mod cards;
-mod cases;
+pub mod cases;
 mod report;
 mod timer;
 
