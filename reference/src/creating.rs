@@ -134,7 +134,7 @@ fn image(random: &mut Random) -> (Sample, usize) {
             let spans = (1 << random.within(1..=HIGHEST)) - 1;
             (full_metaindex(size, spans * usize::from(size)), FEW)
         }
-        50..=79 => (many_names(), CALLS),
+        50..=99 => (many_names(), CALLS),
         _ => (small(), CALLS),
     };
     (generate::sample(random, &knobs), calls)
@@ -213,9 +213,11 @@ fn create(random: &mut Random, meta: &Table) -> Call {
     Call::Create { name }
 }
 
-/// The length of a name with which an entry after this place ends near the end of a page.
+/// The length of a name with which an entry after this place ends near the end of a page, or its
+/// value runs on over it.
 fn length_to_page_end(random: &mut Random, after: Place) -> usize {
-    let at = after.after_entry(0, VALUE);
+    let on_page = random.below(VALUE + 1);
+    let at = after.after_entry(0, on_page);
     generate::length_to_page_end(random, at) % (PAGE - continuation::DATA)
 }
 
