@@ -10,6 +10,9 @@ taken-after-requires c κs = ahead-sooner (c .before .pre .0) _ (omega arith)
 taken-after-requires-2 : tie.Need-taken-after-requires-2
 taken-after-requires-2 c κs = ahead-sooner (c .before .before .pre .0) _ (omega arith)
 
+taken-after-requires-3 : tie.Need-taken-after-requires-3
+taken-after-requires-3 c κs = ahead-sooner (c .before .before .before .pre .0) _ (omega arith)
+
 pub new-table-spec : {M : Type 1} → statement M
 new-table-spec =
     tie.close
@@ -18,6 +21,6 @@ new-table-spec =
     (λ c. search needs)
     taken-after-requires-2
     (λ c. search needs)
-    (λ c κs. search needs)
+    taken-after-requires-3
     (λ c κs. search needs)
     (λ c. search needs))
