@@ -94,6 +94,15 @@ struct calstore_answer calstore_put(uint8_t *image, size_t image_len, uint8_t *s
 struct calstore_answer calstore_remove(uint8_t *image, size_t image_len, uint8_t *scratch, size_t scratch_len,
                                        const uint8_t *name, size_t name_len, const uint8_t *key, size_t key_len);
 
+/* Creates a table, without keys.
+ *   image, image_len      the card's image; it changes only where number is 0, with a refusal all of its bytes stay
+ *   scratch, scratch_len  memory for the call's own work
+ *   name, name_len        the table's name
+ * length is 0. After a create that is done the image is again one that check accepts.
+ * Refusals: 1, 2, 3, 4, 7, 10. */
+struct calstore_answer calstore_create(uint8_t *image, size_t image_len, uint8_t *scratch, size_t scratch_len,
+                                       const uint8_t *name, size_t name_len);
+
 #ifdef __cplusplus
 }
 #endif

@@ -1,6 +1,6 @@
 // The calls for C and Rust, as include/calstore.h declares them.
 ghost use mathlib.Core.List.{[]};
-ghost use Rattle.blockfile.specs.Refusals.{check, get, next, put, remove, plain, refusal};
+ghost use Rattle.blockfile.specs.Refusals.{check, get, next, put, remove, create, plain, refusal};
 ghost use Rattle.blockfile.specs.Calls.{checkedReply, gotReply, wroteReply};
 ghost use Rattle.calstore.specs.Answers.{Bears, Answers};
 use blockfile::Checked;
@@ -133,4 +133,11 @@ pub extern "C" fn calstore_remove(
     ensures { λ r. ⌜ Answers (remove (now (name .entry)) (now (key .entry))) (now (image .entry)) (now (scratch .entry)) [] r (now (image .exit)) (now (scratch .exit)) [] ⌝ }
 {
     wrote(store::remove(image, scratch, name, key))
+}
+
+#[no_mangle]
+pub extern "C" fn calstore_create(image: &mut [u8], scratch: &mut [u8], name: &[u8]) -> Answer
+    ensures { λ r. ⌜ Answers (create (now (name .entry))) (now (image .entry)) (now (scratch .entry)) [] r (now (image .exit)) (now (scratch .exit)) [] ⌝ }
+{
+    wrote(store::create(image, scratch, name))
 }

@@ -1,11 +1,13 @@
-// Put and remove on an accepted image, where table, key and value are not yet known to be allowed: the rows of the refusal table
+// Put, remove and create on an accepted image, where table, key and value are not yet known to be allowed: the rows of the refusal table
 // from 4 on, then the change.
 ghost use Rattle.change.specs.Change.{Lending, Changed};
 ghost use Rattle.change.specs.Request.{opOf};
 use blockfile::Wrote;
+use creating::create_table;
 use putting::put_entry;
 use removing::remove_entry;
 
+pub mod creating;
 pub mod putting;
 pub mod removing;
 
@@ -13,6 +15,7 @@ pub mod removing;
 pub enum Request {
     Put,
     Remove,
+    Create,
 }
 
 // Makes the change that is asked for, with the name, key and value as far as it has them. `free` is the number of free pages; of
@@ -32,5 +35,6 @@ pub fn change(
     match request {
         Request::Put => put_entry(image, scratch, free, name, key, value),
         Request::Remove => remove_entry(image, scratch, free, name, key),
+        Request::Create => create_table(image, scratch, free, name),
     }
 }

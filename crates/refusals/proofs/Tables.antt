@@ -33,11 +33,11 @@ module _ (L : Layout) (name : List ℕ) where
   unfolding ledgerOf
   map-found = find-under entriesOf name (L .tables)
 
-  no-table : find name (L .tables) ≡ none → noTable (ledgerOf L) name ≡ true
+  pub no-table : find name (L .tables) ≡ none → noTable (ledgerOf L) name ≡ true
   no-table e = ap (λ (o : Option (List Entry)). not (there o)) (map-found ∙ ap (Option·map entriesOf) e)
 
   module _ (t : Table) (e : find name (L .tables) ≡ some t) where
-    has-table : noTable (ledgerOf L) name ≡ false
+    pub has-table : noTable (ledgerOf L) name ≡ false
     has-table = ap (λ (o : Option (List Entry)). not (there o)) (map-found ∙ ap (Option·map entriesOf) e)
 
     pub its-map : mapOf (ledgerOf L) name ≡ entriesOf t

@@ -1,7 +1,7 @@
 // The calls on a lent image. Each is for any bytes: no call has a precondition.
 ghost use mathlib.Core.List.{[]};
 ghost use mathlib.Core.Path.{_≡_};
-ghost use Rattle.blockfile.specs.Refusals.{check, get, next, put, remove, refusal};
+ghost use Rattle.blockfile.specs.Refusals.{check, get, next, put, remove, create, refusal};
 ghost use Rattle.change.specs.Request.{opOf};
 ghost use Rattle.blockfile.specs.Calls.{Keeps, checkedReply, gotReply, wroteReply};
 use blockfile::Checked;
@@ -96,6 +96,20 @@ pub fn remove(image: &mut [u8], scratch: &mut [u8], name: &[u8], key: &[u8]) -> 
     ensures { λ r. ⌜ Keeps (remove (now (name .entry)) (now (key .entry))) (now (image .entry)) (now (scratch .entry)) [] (wroteReply r) (now (image .exit)) (now (scratch .exit)) [] ⌝ }
 {
     write(image, scratch, Request::Remove, name, key, &key[..0])
+}
+
+// Creates a table of the name, without keys.
+pub fn create(image: &mut [u8], scratch: &mut [u8], name: &[u8]) -> Wrote
+    ensures { λ r. ⌜ Keeps (create (now (name .entry))) (now (image .entry)) (now (scratch .entry)) [] (wroteReply r) (now (image .exit)) (now (scratch .exit)) [] ⌝ }
+{
+    write(
+        image,
+        scratch,
+        Request::Create,
+        name,
+        &name[..0],
+        &name[..0],
+    )
 }
 
 // The numbers of a refusal: its row in the table, and with 9 the length needed, else 0.

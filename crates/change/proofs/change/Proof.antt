@@ -19,6 +19,9 @@ returns c = let w = c .before .before .before .before in asked _ _ _ _ _ _ _ _ (
 returns-2 : tie.Need-returns-2
 returns-2 c = let w = c .before .before .before .before in asked _ _ _ _ _ _ _ _ (w .before .before .before .enum-told2 .given .1) (w .remove-entry .ensures)
 
+returns-3 : tie.Need-returns-3
+returns-3 c = let w = c .before .before .before .before in asked _ _ _ _ _ _ _ _ (w .before .before .before .enum-told3 .given .1) (w .create-table .ensures)
+
 pub change-spec : {M : Type 1} → statement M
 change-spec =
     tie.close
@@ -28,8 +31,13 @@ change-spec =
     (λ c. search needs)
     (λ c κs. search needs)
     (λ c. search needs)
+    (λ c κs. search needs)
+    (λ c. search needs)
     (λ c. search needs)
     returns
     (λ c. search needs)
     (λ c. search needs)
-    returns-2)
+    returns-2
+    (λ c. search needs)
+    (λ c. search needs)
+    returns-3)
