@@ -1,0 +1,4 @@
+pub mod Functions
+pub mod Runs
+pub mod Answers
+pub mod Tables

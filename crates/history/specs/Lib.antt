@@ -1,0 +1,3 @@
+pub mod Functions
+pub mod Runs
+pub mod Tables
