@@ -55,7 +55,7 @@ module _ (p z : ℕ) (bs : List Block) where
       → allPieces p z (thingPieces (ks ++ (qs ++ js)) xs ts) bs ≡ beforeSkip p z bs ks ++ (map skipList qs ++ afterSkip xs ts bs js)
   at-skips xs ts ks qs js = simp (map-append, append-assoc)
 
-length-counts : (k : SkipList) → length (counts k) ≡ 12
+pub length-counts : (k : SkipList) → length (counts k) ≡ 12
 unfolding counts word32
 length-counts k = refl
 

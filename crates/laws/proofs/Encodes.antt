@@ -138,14 +138,14 @@ length-entries (e ∷ es) v =
 
 -- ---- The pages of a stream
 
-abbrev pageBytes : (mark : List ℕ) (next : ℕ) (stream : List ℕ) → List ℕ
+abbrev pub pageBytes : (mark : List ℕ) (next : ℕ) (stream : List ℕ) → List ℕ
 pageBytes mark n s = mark ++ (word32 n ++ padded 1016 (take 1016 s))
 
 abbrev streamBytes : (mark pages stream : List ℕ) → List (List ℕ)
 streamBytes mark [] s = []
 streamBytes mark (n ∷ ns) s = pageBytes mark (firstOf ns) s ∷ streamBytes contMark ns (drop 1016 s)
 
-length-page : (mark : List ℕ) (n : ℕ) (s : List ℕ) → length mark ≡ 4 → length (pageBytes mark n s) ≡ 1024
+pub length-page : (mark : List ℕ) (n : ℕ) (s : List ℕ) → length mark ≡ 4 → length (pageBytes mark n s) ≡ 1024
 length-page mark n s e =
     let t : length (padded 1016 (take 1016 s)) ≡ 1016 = length-padded 1016 (take 1016 s) (rw length-take (omega arith)) in
     length-append mark (word32 n ++ padded 1016 (take 1016 s))
@@ -213,7 +213,7 @@ pub record SpanFits (x : LinkedSpan) : Type 0 where
   pub sizeSmall : length (x .span .entries) ≤ 65535
   pub entriesSmall : Small (x .span .entries)
 
-abbrev spanStream : LinkedSpan → List ℕ
+abbrev pub spanStream : LinkedSpan → List ℕ
 spanStream x =
     word32 (x .prev) ++ (word32 (x .next) ++ (word16 (x .maxKeys) ++ (word16 (length (x .span .entries)) ++ entriesBytes entriesFrom (x .span .entries))))
 
@@ -301,10 +301,10 @@ pub record TowerFits (x : LinkedTower) : Type 0 where
   pub few : length (x .nexts) ≤ 252
   pub nextsSmall : Every (λ n. n < 4294967296) (x .nexts)
 
-abbrev towerBytes : LinkedTower → List ℕ
+abbrev pub towerBytes : LinkedTower → List ℕ
 towerBytes x = towerMark ++ (word16 (x .tower .maxHeight) ++ (word16 (x .tower .height) ++ (word32 (x .spanPage) ++ gather word32 (x .nexts))))
 
-length-tower : (x : LinkedTower) → length (towerBytes x) ≡ 16 + 4 * length (x .nexts)
+pub length-tower : (x : LinkedTower) → length (towerBytes x) ≡ 16 + 4 * length (x .nexts)
 unfolding towerMark word16
 length-tower x = simp length-append (omega (arith, length-word32 (x .spanPage), length-numbers32 (x .nexts)))
 
@@ -345,10 +345,10 @@ pub record SkipFits (k : SkipList) : Type 0 where
   pub levelsSmall : k .levels < 4294967296
   pub spanSizeSmall : k .spanSize < 65536
 
-abbrev skipBytes : SkipList → List ℕ
+abbrev pub skipBytes : SkipList → List ℕ
 skipBytes k = skipMark ++ (word32 (k .first) ++ (word32 (k .level) ++ (counts k ++ word16 (k .spanSize))))
 
-length-skip : (k : SkipList) → length (skipBytes k) ≡ 30
+pub length-skip : (k : SkipList) → length (skipBytes k) ≡ 30
 unfolding skipMark counts word16 word32
 length-skip k = refl
 

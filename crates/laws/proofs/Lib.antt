@@ -51,3 +51,6 @@ pub mod DrawnRewrites
 pub mod Unlinks
 pub mod Creates
 pub mod Preserves
+pub mod Touches
+pub mod Exchanged
+pub mod Stays

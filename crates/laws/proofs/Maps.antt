@@ -13,7 +13,7 @@ use Rattle.blockfile.proofs.Bools.{so, not-so, holds, same-eq, same-refl}
 use Rattle.blockfile.proofs.Every.{every-so}
 use Rattle.laws.proofs.Orders.{Ordered}
 
-differ : (a b : List ℕ) → same a b ≡ false → a ≡ b → ⊥
+pub differ : (a b : List ℕ) → same a b ≡ false → a ≡ b → ⊥
 differ a b e q = true≢false (sym (so (same a b) (subst (λ (c : List ℕ). T (same a c)) q (same-refl a))) ∙ e)
 
 differ-sym : (a b : List ℕ) → same a b ≡ false → same b a ≡ false

@@ -33,11 +33,11 @@ owned-skips : (ks : List SkipList) → ownedBy (map skipList ks) ≡ skipPages k
 owned-skips [] = refl
 owned-skips (k ∷ ks) = ap (λ (l : List ℕ). k .page ∷ l) (owned-skips ks)
 
-owned-spans : (xs : List LinkedSpan) → ownedBy (map span xs) ≡ spanPages xs
+pub owned-spans : (xs : List LinkedSpan) → ownedBy (map span xs) ≡ spanPages xs
 owned-spans [] = refl
 owned-spans (x ∷ xs) = ap (λ (l : List ℕ). x .span .page ∷ (x .span .conts ++ l)) (owned-spans xs)
 
-owned-towers : (ts : List LinkedTower) → ownedBy (map tower ts) ≡ towerPages ts
+pub owned-towers : (ts : List LinkedTower) → ownedBy (map tower ts) ≡ towerPages ts
 owned-towers [] = refl
 owned-towers (t ∷ ts) = ap (λ (l : List ℕ). t .tower .page ∷ l) (owned-towers ts)
 
@@ -154,7 +154,7 @@ kinds-count n (t ∷ ts) =
 
 -- ---- Opening and closing
 
-gather-map : (ns : List (Keyed Table)) → gather (λ n. tablePieces (n .value)) ns ≡ gather tablePieces (map (λ n. n .value) ns)
+pub gather-map : (ns : List (Keyed Table)) → gather (λ n. tablePieces (n .value)) ns ≡ gather tablePieces (map (λ n. n .value) ns)
 gather-map [] = refl
 gather-map (n ∷ ns) = ap (λ (l : List Piece). tablePieces (n .value) ++ l) (gather-map ns)
 

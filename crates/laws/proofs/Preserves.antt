@@ -137,57 +137,56 @@ module _ (L : Layout) (ok : LayoutOk L) (few : Every (λ b. length (b .listed) �
 
 -- ---- Each call
 
--- an image of a layout after writes that turn it into a layout that keeps the rules
+module _ (L : Layout) where
+  -- the writes of the plan turn the layout into the one after it
+  abbrev Turned : Plan → Type 0
+  Turned p = lacks L p ≡ false → LayoutOk (layoutAfter L p) → Turns (L .pages) (L .spanSize) (writesOf L p) (heldBy L) (heldBy (layoutAfter L p))
+
+  turned-as : (o : Option Plan) (p q : Plan) → o ≡ some p → o ≡ some q → Turned q → Turned p
+  turned-as o p q e d t = let i : q ≡ p = cc in subst Turned i t
+
+-- those of an unrefused call do
+plan-turn : (L : Layout) (op : Op) (room : ℕ) → LayoutOk L → Every (λ b. length (b .listed) ≤ 252) (L .free) → refused (ledgerOf L) op room ≡ none → (p : Plan)
+    → planOf L op ≡ some p → Turned L p
+plan-turn L check room ok few r p e = absurd (let z : _≡_ {A = ℕ} 0 1 = cc in omega arith)
+plan-turn L (get n k) room ok few r p e = absurd (let z : _≡_ {A = ℕ} 0 1 = cc in omega arith)
+plan-turn L (put n k v) room ok few r p e =
+    let x : OnTable L n k = put-allowed L room n k v r .0 in
+    turned-as L (planOf L (put n k v)) p (putPlan L n (x .table) k v) e (on-table L n (x .table) (λ u. putPlan L n u k v) (x .found)) (put-turn L ok few n (x .table) (x .found) k v)
+plan-turn L (remove n k) room ok few r p e =
+    let x : OnTable L n k = remove-allowed L room n k r .0 in
+    turned-as L (planOf L (remove n k)) p (removePlan L n (x .table) k) e (on-table L n (x .table) (λ u. removePlan L n u k) (x .found)) (remove-turn L ok few n (x .table) (x .found) k)
+plan-turn L (next n k) room ok few r p e = absurd (let z : _≡_ {A = ℕ} 0 1 = cc in omega arith)
+plan-turn L (create n) room ok few r p e =
+    turned-as L (planOf L (create n)) p (createPlan L n) e refl (create-turn L ok few n (create-allowed L room n r .1))
+
 module _ (img : List ℕ) (L : Layout) (op : Op) (room : ℕ) (w : WellFormed img L) (allowed : refused (ledgerOf L) op room ≡ none) where
-  done-so : (p : Plan) → planOf L op ≡ some p → lacks L p ≡ false
-      → (LayoutOk (layoutAfter L p) → Turns (L .pages) (L .spanSize) (writesOf L p) (heldBy L) (heldBy (layoutAfter L p)))
-      → Holds (ledgerAfter L op) (apply (writesOf L p) img)
+  done-so : (p : Plan) → planOf L op ≡ some p → lacks L p ≡ false → Done L op (layoutAfter L p)
+  done-so p e h = done-after L op room p (layout-ok img L w) allowed e h
+
+  -- what a done call writes leaves a well-formed image, with the layout that the plan says
+  pub well-after : (p : Plan) → planOf L op ≡ some p → lacks L p ≡ false → WellFormed (apply (writesOf L p) img) (layoutAfter L p)
   unfolding layoutAfter
-  done-so p e h turns =
-      let d : Done L op (layoutAfter L p) = done-after L op room p (layout-ok img L w) allowed e h in
-      record {
-        layout = layoutAfter L p;
-        well =
-            closes (apply (writesOf L p) img) (layoutAfter L p)
-            (record {
-              spanSize = d .ok .spanSize;
-              metaPage = d .ok .metaPage;
-              metaOk = d .ok .metaOk;
-              metaEntries = d .ok .metaEntries;
-              tablesOk = d .ok .tablesOk;
-              blocksOk = few-drawn (p .old) (p .wanted) (p .gone) (L .free) (w .blocksOk);
-            })
-            (turns (d .ok) .turn img (opens img L w));
-        ledger = d .ledger;
-      }
-
-  planned-so : (p : Plan) → planOf L op ≡ some p → lacking L (planOf L op) ≡ false
-      → (lacks L p ≡ false → LayoutOk (layoutAfter L p) → Turns (L .pages) (L .spanSize) (writesOf L p) (heldBy L) (heldBy (layoutAfter L p)))
-      → Holds (ledgerAfter L op) (apply (planned L (planOf L op)) img)
-  planned-so p e h turns =
-      let q : lacks L p ≡ false = subst (λ (a : Option Plan). lacking L a ≡ false) e h in
-      subst (λ (a : Option Plan). Holds (ledgerAfter L op) (apply (planned L a) img)) (sym e) (done-so p e q (turns q))
-
-  unplanned-so : planOf L op ≡ none → Holds (ledgerAfter L op) (apply (planned L (planOf L op)) img)
-  unplanned-so e =
-      subst (λ (a : Option Plan). Holds (ledgerAfter L op) (apply (planned L a) img)) (sym e)
-      (record { layout = L; well = w; ledger = sym (none-after L op room allowed e) })
+  well-after p e h =
+      let d : LayoutOk (layoutAfter L p) = done-so p e h .ok in
+      closes (apply (writesOf L p) img) (layoutAfter L p)
+      (record {
+        spanSize = d .spanSize;
+        metaPage = d .metaPage;
+        metaOk = d .metaOk;
+        metaEntries = d .metaEntries;
+        tablesOk = d .tablesOk;
+        blocksOk = few-drawn (p .old) (p .wanted) (p .gone) (L .free) (w .blocksOk);
+      })
+      (plan-turn L op room (layout-ok img L w) (w .blocksOk) allowed p e h d .turn img (opens img L w))
 
 -- what a done call writes leaves a well-formed image with the ledger's tables
 pub preserved : Preserved
-preserved img L check room w r h = unplanned-so img L check room w r refl
-preserved img L (get n k) room w r h = unplanned-so img L (get n k) room w r refl
-preserved img L (put n k v) room w r h =
-    let x : OnTable L n k = put-allowed L room n k v r .0 in
-    planned-so img L (put n k v) room w r (putPlan L n (x .table) k v) (on-table L n (x .table) (λ u. putPlan L n u k v) (x .found)) h
-    (put-turn L (layout-ok img L w) (w .blocksOk) n (x .table) (x .found) k v)
-preserved img L (remove n k) room w r h =
-    let x : OnTable L n k = remove-allowed L room n k r .0 in
-    planned-so img L (remove n k) room w r (removePlan L n (x .table) k) (on-table L n (x .table) (λ u. removePlan L n u k) (x .found)) h
-    (remove-turn L (layout-ok img L w) (w .blocksOk) n (x .table) (x .found) k)
-preserved img L (next n k) room w r h = unplanned-so img L (next n k) room w r refl
-preserved img L (create n) room w r h =
-    planned-so img L (create n) room w r (createPlan L n) refl h (create-turn L (layout-ok img L w) (w .blocksOk) n (create-allowed L room n r .1))
+preserved img L op room w r h = go (planOf L op) refl h
+  where
+    go : (a : Option Plan) → planOf L op ≡ a → lacking L a ≡ false → Holds (ledgerAfter L op) (apply (planned L a) img)
+    go none e l = record { layout = L; well = w; ledger = sym (none-after L op room r e) }
+    go (some p) e l = record { layout = layoutAfter L p; well = well-after img L op room w r p e l; ledger = done-so img L op room w r p e l .ledger }
 
 -- demand 3: over any list of calls, the answers and the tables are those of the ledger
 pub demand-three : Demand3
