@@ -52,5 +52,6 @@ pub mod Unlinks
 pub mod Creates
 pub mod Preserves
 pub mod Touches
-pub mod Exchanged
+pub mod Owners
+pub mod Names
 pub mod Stays

@@ -154,7 +154,7 @@ kinds-count n (t ∷ ts) =
 
 -- ---- Opening and closing
 
-pub gather-map : (ns : List (Keyed Table)) → gather (λ n. tablePieces (n .value)) ns ≡ gather tablePieces (map (λ n. n .value) ns)
+gather-map : (ns : List (Keyed Table)) → gather (λ n. tablePieces (n .value)) ns ≡ gather tablePieces (map (λ n. n .value) ns)
 gather-map [] = refl
 gather-map (n ∷ ns) = ap (λ (l : List Piece). tablePieces (n .value) ++ l) (gather-map ns)
 

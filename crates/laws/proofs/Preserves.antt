@@ -53,7 +53,7 @@ table-turned L name t u bs ws h f turns =
     (turns (surrounds pre (s .behind)))
 
 -- the table put under a name keeps the rules, if all do
-made-ok : (ns : List (Keyed Table)) (name : List ℕ) (u : Table) → Every (λ n. TableOk (keyRule (n .key)) (n .value)) (insert nameRule name u ns) → TableOk (keyRule name) u
+pub made-ok : (ns : List (Keyed Table)) (name : List ℕ) (u : Table) → Every (λ n. TableOk (keyRule (n .key)) (n .value)) (insert nameRule name u ns) → TableOk (keyRule name) u
 made-ok ns name u h = table-found (insert nameRule name u ns) name u h (insert-found nameRule names-ordered name u ns)
 
 module _ (L : Layout) (ok : LayoutOk L) (few : Every (λ b. length (b .listed) ≤ 252) (L .free)) where

@@ -1,0 +1,137 @@
+-- The pages of an image by their owners: the superblock, the tables and their parts, the free list.
+use Prim.Native.Nat.{ℕ, _+_, _<_, _≤_}
+use native.Mathlib.Omega.{arith}
+use mathlib.Core.Path.{_≡_, refl, ap, sym, _∙_}
+use mathlib.Core.Bool.{Bool, true, false, cond}
+use mathlib.Core.Option.{some}
+use mathlib.Core.List.{List, [], _∷_, _++_, map, map-append}
+use lib.ListN.{length, take, drop}
+use Rattle.blockfile.specs.Bytes.{gather}
+use Rattle.blockfile.specs.Layout.{Keyed, Span, Tower, Table, Layout, columns, spansOf, towersOf}
+use Rattle.blockfile.specs.Order.{same, find}
+use Rattle.blockfile.specs.WellFormed.{span, tower, count, spansIn, towersIn, tablePieces, pieces}
+use Rattle.blockfile.specs.Put.{spanAt}
+use Rattle.blockfile.specs.Remove.{towersAt}
+use Rattle.blockfile.proofs.Bools.{holds, same-eq}
+use Rattle.blockfile.proofs.Count.{count-append}
+use Rattle.blockfile.proofs.Owned.{ownedBy, owned-append, count-owned}
+use Rattle.laws.specs.FreeList.{freePages}
+use Rattle.laws.proofs.Maps.{differ}
+use Rattle.laws.proofs.Places.{gather-append}
+use Rattle.laws.proofs.State.{spanPages}
+use Rattle.laws.proofs.Opens.{owned-spans, owned-towers}
+use Rattle.laws.proofs.SpanLinks.{spansTo, spansPast, link-between, spans-here}
+use Rattle.laws.proofs.TowerLinks.{pagesIn}
+use Rattle.laws.proofs.Relinks.{towers-cut}
+use Rattle.laws.proofs.Pagewise.{allPages, between-pages, tower-pages}
+use Rattle.laws.proofs.Spots.{inOption}
+
+-- the pages of a table: its skip-list page, its spans with their continuation pages, its towers
+abbrev pub tablePages : Table → List ℕ
+tablePages t = ownedBy (tablePieces t)
+
+-- the pages of all named tables
+abbrev pub namedPages : List (Keyed Table) → List ℕ
+namedPages ns = ownedBy (gather (λ n. tablePieces (n .value)) ns)
+
+-- the pages of the table of a name, if there is one
+abbrev pub pagesUnder : List ℕ → List (Keyed Table) → List ℕ
+pagesUnder name ns = gather tablePages (inOption (find name ns))
+
+-- ---- Counts
+
+module _ (n : ℕ) where
+  -- the pages of an image, by who owns them
+  pub count-pages : (L : Layout) → count n (ownedBy (pieces L)) ≡ count n (1 ∷ []) + (count n (tablePages (L .meta)) + (count n (namedPages (L .tables)) + count n (freePages (L .free))))
+  count-pages L = simp count-owned (omega arith)
+
+  -- ---- The table of a name, and another one
+
+  -- the pages under a name are pages of named tables
+  pub under-named : (name : List ℕ) (ns : List (Keyed Table)) → count n (pagesUnder name ns) ≤ count n (namedPages ns)
+  under-named name [] = omega arith
+  under-named name (x ∷ xs) = go (same name (x .key)) (under-named name xs)
+    where
+      go : (b : Bool) → count n (pagesUnder name xs) ≤ count n (namedPages xs)
+          → count n (gather tablePages (inOption (cond b (some (x .value)) (find name xs)))) ≤ count n (namedPages (x ∷ xs))
+      go true h = omega (arith, count-append n (tablePages (x .value)) [], count-owned n (tablePieces (x .value)) (gather (λ y. tablePieces (y .value)) xs))
+      go false h = omega (arith, count-owned n (tablePieces (x .value)) (gather (λ y. tablePieces (y .value)) xs))
+
+  -- and two names have different pages
+  pub names-apart : (name other : List ℕ) → same other name ≡ false → (ns : List (Keyed Table))
+      → count n (pagesUnder name ns) + count n (pagesUnder other ns) ≤ count n (namedPages ns)
+  names-apart name other d [] = omega arith
+  names-apart name other d (x ∷ xs) = go (same name (x .key)) refl (same other (x .key)) refl (names-apart name other d xs)
+    where
+      go : (b : Bool) → same name (x .key) ≡ b → (c : Bool) → same other (x .key) ≡ c → count n (pagesUnder name xs) + count n (pagesUnder other xs) ≤ count n (namedPages xs)
+          → count n (gather tablePages (inOption (cond b (some (x .value)) (find name xs)))) + count n (gather tablePages (inOption (cond c (some (x .value)) (find other xs))))
+          ≤ count n (namedPages (x ∷ xs))
+      go true e true f h =
+          absurd (differ other name d (same-eq other (x .key) (holds (same other (x .key)) f) ∙ sym (same-eq name (x .key) (holds (same name (x .key)) e))))
+      go true e false f h =
+          omega (arith, count-append n (tablePages (x .value)) [], count-owned n (tablePieces (x .value)) (gather (λ y. tablePieces (y .value)) xs), under-named other xs)
+      go false e true f h =
+          omega (arith, count-append n (tablePages (x .value)) [], count-owned n (tablePieces (x .value)) (gather (λ y. tablePieces (y .value)) xs), under-named name xs)
+      go false e false f h = omega (arith, count-owned n (tablePieces (x .value)) (gather (λ y. tablePieces (y .value)) xs))
+
+-- ---- The pages of a table, part by part
+
+pub table-pages : (t : Table) → tablePages t ≡ t .root ∷ (allPages (spansOf (columns t)) ++ pagesIn (towersOf (columns t)))
+table-pages t =
+    ap (λ (l : List ℕ). t .root ∷ l)
+    (owned-append (map span (spansIn t)) (map tower (towersIn t))
+    ∙ (λ j. owned-spans (spansIn t) j ++ owned-towers (towersIn t) j)
+    ∙ (λ j. spanPages (link-between (t .spanSize) 0 (spansOf (columns t)) j) ++ tower-pages (columns t) j)
+    ∙ ap (λ (l : List ℕ). l ++ pagesIn (towersOf (columns t))) (between-pages (t .spanSize) 0 0 (spansOf (columns t))))
+
+-- the continuation pages of spans
+abbrev pub contPages : List Span → List ℕ
+contPages ss = gather (λ s. s .conts) ss
+
+-- the pages of spans
+abbrev pub firstPages : List Span → List ℕ
+firstPages ss = map (λ s. s .page) ss
+
+module _ (n : ℕ) where
+  spans-split : (ss : List Span) → count n (allPages ss) ≡ count n (firstPages ss) + count n (contPages ss)
+  spans-split [] = refl
+  spans-split (s ∷ ss) = omega (arith, spans-split ss, count-append n (s .conts) (allPages ss), count-append n (s .conts) (contPages ss))
+
+  -- a table's pages: its skip-list page, its spans, their continuation pages, its towers
+  pub count-table : (t : Table)
+      → count n (tablePages t) ≡ count n (t .root ∷ []) + (count n (firstPages (spansOf (columns t))) + (count n (contPages (spansOf (columns t))) + count n (pagesIn (towersOf (columns t)))))
+  count-table t =
+      ap (count n) (table-pages t)
+      ∙ omega (arith, count-append n (allPages (spansOf (columns t))) (pagesIn (towersOf (columns t))), spans-split (spansOf (columns t)))
+
+  -- the span at a place is one of them
+  pub count-span : (t : Table) (i : ℕ) → i < length (columns t)
+      → (count n (spanAt t i .page ∷ []) ≤ count n (firstPages (spansOf (columns t)))) × (count n (spanAt t i .conts) ≤ count n (contPages (spansOf (columns t))))
+  count-span t i l = (
+    omega (
+      arith,
+      ap (λ (ss : List Span). count n (firstPages ss)) (spans-here t i l),
+      ap (count n) (map-append (λ (s : Span). s .page) (spansTo t i) (spanAt t i ∷ spansPast t i)),
+      count-append n (firstPages (spansTo t i)) (spanAt t i .page ∷ firstPages (spansPast t i)),
+    ),
+    omega (
+      arith,
+      ap (λ (ss : List Span). count n (contPages ss)) (spans-here t i l),
+      ap (count n) (gather-append (λ (s : Span). s .conts) (spansTo t i) (spanAt t i ∷ spansPast t i)),
+      count-append n (contPages (spansTo t i)) (spanAt t i .conts ++ contPages (spansPast t i)),
+      count-append n (spanAt t i .conts) (contPages (spansPast t i)),
+    ),
+  )
+
+  -- so are the towers at a place
+  pub count-towers : (t : Table) (i : ℕ) → count n (pagesIn (towersAt t i)) ≤ count n (pagesIn (towersOf (columns t)))
+  count-towers t i =
+      omega (
+        arith,
+        ap (λ (ws : List Tower). count n (pagesIn ws)) (towers-cut i (columns t)),
+        ap (count n) (map-append (λ (w : Tower). w .page) (towersOf (take i (columns t))) (towersOf (drop i (columns t)))),
+        count-append n (pagesIn (towersOf (take i (columns t)))) (pagesIn (towersOf (drop i (columns t)))),
+        ap (λ (ws : List Tower). count n (pagesIn ws)) (towers-cut 1 (drop i (columns t))),
+        ap (count n) (map-append (λ (w : Tower). w .page) (towersAt t i) (towersOf (drop 1 (drop i (columns t))))),
+        count-append n (pagesIn (towersAt t i)) (pagesIn (towersOf (drop 1 (drop i (columns t))))),
+      )
