@@ -14,7 +14,7 @@ use Rattle.blockfile.specs.Order.{KeyRule, nameRule, keyRule, Within}
 use Rattle.blockfile.specs.Fields.{LinkedSpan, LinkedTower}
 use Rattle.blockfile.specs.WellFormed.{freePage, count, nextAt, linkTowers, spansIn, towersIn, freePieces, TableOk}
 use Rattle.blockfile.specs.Free.{Drawn, takeFrom, takePage, takeMany, giveMany, draw}
-use Rattle.blockfile.specs.Plan.{Plan, lacks, layoutAfter, writesOf}
+use Rattle.blockfile.specs.Plan.{Plan, drawnBy, lacks, layoutAfter, writesOf}
 use Rattle.blockfile.specs.Put.{Parts, Shared, target, parts, wantedBy, share, newColumns, rewriting, rewrite, rewritePlan, putPlan, spanAt, tableAfter}
 use Rattle.blockfile.specs.Remove.{without, towersAt, unlinking, unlinkPlan, leavePlan, removePlan}
 use Rattle.blockfile.specs.Create.{wholeTable, createPlan}
@@ -50,67 +50,17 @@ pub record Part (ns : List ℕ) (lo hi : ℕ) (w : Write) : Type 0 where
   pub high : w .offset + length (w .bytes) ≤ hi
 
 -- a write that document 01 names: on the superblock bytes 16 to 19; of a table's skip-list page 16 to 27, of its head 10 and 11, of its spans
--- 8 to 15, of its towers those from 16 on; on pages in hand any
-pub data Named (t : Table) (hand : List ℕ) (w : Write) : Type 0 where
-  first-free : Part (1 ∷ []) 16 20 w → Named t hand w
-  counts : Part (t .root ∷ []) 16 28 w → Named t hand w
-  height : Part (t .head .page ∷ []) 10 12 w → Named t hand w
-  links : Part (map (λ s. s .page) (spansOf (columns t))) 8 16 w → Named t hand w
-  entries : Part (pagesIn (towersOf (columns t))) 16 1024 w → Named t hand w
-  in-hand : Part hand 0 1024 w → Named t hand w
-
--- ---- The pages drawn
+-- 8 to 15, of its towers those from 16 on; of free-list blocks those from 12 on; on pages in hand any
+pub data Named (t : Table) (blocks hand : List ℕ) (w : Write) : Type 0 where
+  first-free : Part (1 ∷ []) 16 20 w → Named t blocks hand w
+  counts : Part (t .root ∷ []) 16 28 w → Named t blocks hand w
+  height : Part (t .head .page ∷ []) 10 12 w → Named t blocks hand w
+  links : Part (map (λ s. s .page) (spansOf (columns t))) 8 16 w → Named t blocks hand w
+  entries : Part (pagesIn (towersOf (columns t))) 16 1024 w → Named t blocks hand w
+  listing : Part blocks 12 1024 w → Named t blocks hand w
+  in-hand : Part hand 0 1024 w → Named t blocks hand w
 
 module _ (P : ℕ → Type 0) where
-  -- a block and the pages that it lists
-  abbrev BlockOf : Block → Type 0
-  BlockOf b = P (b .page) × Every P (b .listed)
-
-  record TakenOf (d : Drawn) : Type 0 where
-    pages : Every P (d .pages)
-    free : Every BlockOf (d .free)
-
-  take-of : (n : ℕ) (ws : List ℕ) (c : ℕ) (bs : List Block) → length ws ≡ c → P n → Every P ws → Every BlockOf bs → TakenOf (takeFrom n ws c bs)
-  take-of n ws zero bs e p l f = record { pages = (p, tt); free = f }
-  take-of n ws (suc c) bs e p l f =
-      let q : ws ≡ take c ws ++ getD ws c 0 ∷ [] = sym (take-all (suc c) ws (omega arith)) ∙ take-suc ws c 0 (omega arith) in
-      record { pages = (every-right P (take c ws) (getD ws c 0 ∷ []) (subst (Every P) q l) .0, tt); free = ((p, every-take P c ws l), f) }
-
-  page-of : (bs : List Block) → Every BlockOf bs → TakenOf (takePage bs)
-  page-of [] f = record { pages = tt; free = tt }
-  page-of (b ∷ bs) f = take-of (b .page) (b .listed) (length (b .listed)) bs refl (f .0 .0) (f .0 .1) (f .1)
-
-  pages-of : (n : ℕ) (bs : List Block) → Every BlockOf bs → Every P (takeMany n bs .pages)
-  pages-of zero bs f = tt
-  pages-of (suc n) bs f =
-      let d : TakenOf (takePage bs) = page-of bs f in
-      every-join P (takePage bs .pages) (takeMany n (takePage bs .free) .pages) (d .pages) (pages-of n (takePage bs .free) (d .free))
-
-  -- pages drawn are old pages and free ones
-  drawn-of : (old : List ℕ) (wanted : ℕ) (gone : List ℕ) (bs : List Block) → Every P old → Every BlockOf bs → Every P (draw old wanted gone bs .pages)
-  unfolding draw
-  drawn-of old wanted gone bs o f =
-      let t : Drawn = takeMany (wanted - length old) bs in
-      every-join P (take wanted old) (t .pages ++ giveMany (drop wanted old ++ gone) (t .free) .pages) (every-take P wanted old o)
-      (every-join P (t .pages) (giveMany (drop wanted old ++ gone) (t .free) .pages) (pages-of (wanted - length old) bs f)
-      (subst (Every P) (sym (none-given (drop wanted old ++ gone) (t .free))) tt))
-
-  blocks-of : (bs : List Block) → ((n : ℕ) → 1 ≤ count n (freePages bs) → P n) → Every BlockOf bs
-  blocks-of [] h = tt
-  blocks-of (b ∷ bs) h =
-      let rest : List ℕ = ownedBy (map freePage (b .listed) ++ freePieces bs) in (
-        (
-          h (b .page) (omega (arith, count-here (b .page) rest)),
-          every-counted P (b .listed)
-              (λ n c. h n (omega (arith, count-more n (b .page) rest, count-owned n (map freePage (b .listed)) (freePieces bs), count-listed n (b .listed)))),
-        ),
-        blocks-of bs (λ n c. h n (omega (arith, count-more n (b .page) rest, count-owned n (map freePage (b .listed)) (freePieces bs)))),
-      )
-    where
-      count-listed : (n : ℕ) (ls : List ℕ) → count n (ownedBy (map freePage ls)) ≡ count n ls
-      count-listed n [] = refl
-      count-listed n (l ∷ ls) = omega (arith, count-listed n ls)
-
   each-span : (ss : List Span) → Every P (allPages ss) → Every (λ s. P (s .page) × Every P (s .conts)) ss
   each-span [] h = tt
   each-span (s ∷ ss) h = ((h .0, every-left P (s .conts) (allPages ss) (h .1)), each-span ss (every-right P (s .conts) (allPages ss) (h .1)))
@@ -121,35 +71,35 @@ between-spans P z p n (s ∷ ss) h = (h .0, between-spans P z (s .page) n ss (h 
 
 -- ---- A table, and pages in hand
 
-module _ (t : Table) (hand : List ℕ) where
+module _ (t : Table) (blocks hand : List ℕ) where
   -- any write on a page in hand
-  any : (n o l : ℕ) → o + l ≤ 1024 → 1 ≤ count n hand → Field (Named t hand) n o l
+  any : (n o l : ℕ) → o + l ≤ 1024 → 1 ≤ count n hand → Field (Named t blocks hand) n o l
   any n o l f c bs e = in-hand (record { page = c; low = omega arith; high = omega arith })
 
   single : (n : ℕ) → 1 ≤ count n (n ∷ [])
   single n = omega (arith, count-here n [])
 
-  super-named : Field (Named t hand) 1 16 4
+  super-named : Field (Named t blocks hand) 1 16 4
   super-named bs e = first-free (record { page = single 1; low = omega arith; high = omega arith })
 
-  counts-named : Field (Named t hand) (t .root) 16 12
+  counts-named : Field (Named t blocks hand) (t .root) 16 12
   counts-named bs e = counts (record { page = single (t .root); low = omega arith; high = omega arith })
 
-  height-named : Field (Named t hand) (t .head .page) 10 2
+  height-named : Field (Named t blocks hand) (t .head .page) 10 2
   height-named bs e = height (record { page = single (t .head .page); low = omega arith; high = omega arith })
 
   -- what may be written on any span's page, and on any tower's
   abbrev Linkable : Span → Type 0
-  Linkable s = Field (Named t hand) (s .page) 8 4 × Field (Named t hand) (s .page) 12 4
+  Linkable s = Field (Named t blocks hand) (s .page) 8 4 × Field (Named t blocks hand) (s .page) 12 4
 
   abbrev Enterable : Tower → Type 0
-  Enterable w = Numbered (Named t hand) (w .page)
+  Enterable w = Numbered (Named t blocks hand) (w .page)
 
   link-named : Every Linkable (spansOf (columns t))
   link-named =
       let ns : List ℕ = map (λ s. s .page) (spansOf (columns t)) in
-      every-unmap (λ n. Field (Named t hand) n 8 4 × Field (Named t hand) n 12 4) (λ (s : Span). s .page) (spansOf (columns t))
-      (every-counted (λ n. Field (Named t hand) n 8 4 × Field (Named t hand) n 12 4) ns
+      every-unmap (λ n. Field (Named t blocks hand) n 8 4 × Field (Named t blocks hand) n 12 4) (λ (s : Span). s .page) (spansOf (columns t))
+      (every-counted (λ n. Field (Named t blocks hand) n 8 4 × Field (Named t blocks hand) n 12 4) ns
       (λ n c. (
         λ bs e. links (record { page = c; low = omega arith; high = omega arith }),
         λ bs e. links (record { page = c; low = omega arith; high = omega arith }),
@@ -157,8 +107,8 @@ module _ (t : Table) (hand : List ℕ) where
 
   enter-named : Every Enterable (towersOf (columns t))
   enter-named =
-      every-unmap (Numbered (Named t hand)) (λ (w : Tower). w .page) (towersOf (columns t))
-      (every-counted (Numbered (Named t hand)) (pagesIn (towersOf (columns t)))
+      every-unmap (Numbered (Named t blocks hand)) (λ (w : Tower). w .page) (towersOf (columns t))
+      (every-counted (Numbered (Named t blocks hand)) (pagesIn (towersOf (columns t)))
       (λ n c i l bs e. entries (record { page = c; low = omega arith; high = omega arith })))
 
   link-any : (s : Span) → 1 ≤ count (s .page) hand → Linkable s
@@ -167,23 +117,28 @@ module _ (t : Table) (hand : List ℕ) where
   enter-any : (w : Tower) → 1 ≤ count (w .page) hand → Enterable w
   enter-any w c i l = any (w .page) _ 4 (omega arith) c
 
-  span-any : (s : Span) → (1 ≤ count (s .page) hand) × Every (λ n. 1 ≤ count n hand) (s .conts) → SpanWhole (Named t hand) s
+  span-any : (s : Span) → (1 ≤ count (s .page) hand) × Every (λ n. 1 ≤ count n hand) (s .conts) → SpanWhole (Named t blocks hand) s
   span-any s c = (any (s .page) 0 1024 (omega arith) (c .0), every-so (λ n. 1 ≤ count n hand) (λ n. any n 0 1024 (omega arith)) (s .conts) (c .1))
 
-  block-any : (n : ℕ) → 1 ≤ count n hand → BlockHas (Named t hand) n
+  block-any : (n : ℕ) → 1 ≤ count n hand → BlockHas (Named t blocks hand) n
   block-any n c = record { count = any n 12 4 (omega arith) c; listed = λ i l. any n _ 4 (omega arith) c }
 
-  given-any : (n : ℕ) → 1 ≤ count n hand → GivenHas (Named t hand) n
+  given-any : (n : ℕ) → 1 ≤ count n hand → GivenHas (Named t blocks hand) n
   given-any n c = record { mark = any n 0 8 (omega arith) c; start = any n 0 16 (omega arith) c; block = block-any n c }
 
-  -- what drawing writes, with the pages given back and the free ones in hand
-  drawing-named : (old : List ℕ) (wanted : ℕ) (gone : List ℕ) (bs : List Block) → Every (λ n. 1 ≤ count n hand) old → Every (λ n. 1 ≤ count n hand) gone
-      → Every (BlockOf (λ n. 1 ≤ count n hand)) bs → Every (Named t hand) (draw old wanted gone bs .writes)
-  drawing-named old wanted gone bs o g f =
-      let P : ℕ → Type 0 = λ n. 1 ≤ count n hand in
-      draw-has (Named t hand) super-named old wanted gone bs
-      (every-join (GivenHas (Named t hand)) (drop wanted old) gone (every-so P given-any (drop wanted old) (every-drop P wanted old o)) (every-so P given-any gone g))
-      (every-so (BlockOf P) (λ b h. block-any (b .page) (h .0)) bs f)
+  block-named : (n : ℕ) → 1 ≤ count n blocks → BlockHas (Named t blocks hand) n
+  block-named n c =
+      record {
+        count = λ bs e. listing (record { page = c; low = omega arith; high = omega arith });
+        listed = λ i l bs e. listing (record { page = c; low = omega arith; high = omega arith });
+      }
+
+  -- what drawing writes, with the pages given back in hand
+  drawing-named : (old : List ℕ) (wanted : ℕ) (gone : List ℕ) (bs : List Block) → blocks ≡ map (λ b. b .page) bs → Every (λ n. 1 ≤ count n hand) (drop wanted old ++ gone)
+      → Every (Named t blocks hand) (draw old wanted gone bs .writes)
+  drawing-named old wanted gone bs e g =
+      draw-has (Named t blocks hand) super-named old wanted gone bs (every-so (λ n. 1 ≤ count n hand) given-any (drop wanted old ++ gone) g)
+      (every-unmap (BlockHas (Named t blocks hand)) (λ (b : Block). b .page) bs (subst (Every (BlockHas (Named t blocks hand))) e (every-counted (BlockHas (Named t blocks hand)) blocks block-named)))
 
   -- ---- A span rewritten
 
@@ -199,7 +154,7 @@ module _ (t : Table) (hand : List ℕ) where
     new-towers-in : Every (λ w. P (w .page)) (towersOf (newColumns t p s))
     new-towers-in = every-unmap P (λ (w : Tower). w .page) (towersOf (newColumns t p s)) (subst (Every P) (sym towers) tower)
 
-    links-after : LinksHave (Named t hand) (tableAfter t i p s)
+    links-after : LinksHave (Named t blocks hand) (tableAfter t i p s)
     links-after =
         record {
           spans =
@@ -219,20 +174,20 @@ module _ (t : Table) (hand : List ℕ) where
               (every-so (λ (w : Tower). P (w .page)) enter-any (towersOf (newColumns t p s)) new-towers-in)
               (every-right Enterable (towersOf (take (suc i) (columns t))) (towersOf (drop (suc i) (columns t)))
               (subst (Every Enterable) (towers-cut (suc i) (columns t)) enter-named))));
-          height = subst (λ (n : ℕ). Field (Named t hand) n 10 2) (sym (kept-after t p s i .headPage)) height-named;
-          counts = subst (λ (n : ℕ). Field (Named t hand) n 16 12) (sym (kept-after t p s i .root)) counts-named;
+          height = subst (λ (n : ℕ). Field (Named t blocks hand) n 10 2) (sym (kept-after t p s i .headPage)) height-named;
+          counts = subst (λ (n : ℕ). Field (Named t blocks hand) n 16 12) (sym (kept-after t p s i .root)) counts-named;
         }
 
-    spans-whole : Every (λ x. SpanWhole (Named t hand) (x .span)) (take (1 + length (newColumns t p s)) (drop i (spansIn (tableAfter t i p s))))
+    spans-whole : Every (λ x. SpanWhole (Named t blocks hand) (x .span)) (take (1 + length (newColumns t p s)) (drop i (spansIn (tableAfter t i p s))))
     spans-whole =
-        subst (Every (λ (x : LinkedSpan). SpanWhole (Named t hand) (x .span))) (sym (written-whole t i p s inside)) (
+        subst (Every (λ (x : LinkedSpan). SpanWhole (Named t blocks hand) (x .span))) (sym (written-whole t i p s inside)) (
           span-any (newSpan t i p s) (here, conts),
-          between-spans (SpanWhole (Named t hand)) (t .spanSize) (spanAt t i .page) (firstPage 0 (spansPast t i)) (spansOf (newColumns t p s))
+          between-spans (SpanWhole (Named t blocks hand)) (t .spanSize) (spanAt t i .page) (firstPage 0 (spansPast t i)) (spansOf (newColumns t p s))
               (every-so (λ (x : Span). P (x .page) × Every P (x .conts)) span-any (spansOf (newColumns t p s)) new-spans-in),
         )
 
     towers-whole : length (towersOf (newColumns t p s)) ≡ min 1 (p .height) → Every (λ w. w .height ≤ 252) (towersOf (columns (tableAfter t i p s)))
-        → Every (TowerWhole (Named t hand)) (take (min 1 (p .height)) (linkTowers (drop (i + 1) (columns (tableAfter t i p s)))))
+        → Every (TowerWhole (Named t blocks hand)) (take (min 1 (p .height)) (linkTowers (drop (i + 1) (columns (tableAfter t i p s)))))
     towers-whole many low =
         let new : List LinkedTower = take (min 1 (p .height)) (linkTowers (drop (i + 1) (columns (tableAfter t i p s)))) in
         let L : Tower → Type 0 = λ w. w .height ≤ 252 in
@@ -249,15 +204,15 @@ module _ (t : Table) (hand : List ℕ) where
         (λ x c d. (omega (arith, c .0, c .1), any (x .tower .page) 0 1024 (omega arith) d)) new a b
 
     rewriting-named : p .height ≤ 252 → length (towersOf (newColumns t p s)) ≡ min 1 (p .height) → Every (λ w. w .height ≤ 252) (towersOf (columns (tableAfter t i p s)))
-        → Every (Named t hand) (rewriting t i (length (newColumns t p s)) (p .height) (tableAfter t i p s))
+        → Every (Named t blocks hand) (rewriting t i (length (newColumns t p s)) (p .height) (tableAfter t i p s))
     rewriting-named most many low =
-        rewriting-has (Named t hand) (tableAfter t i p s) links-after t i (length (newColumns t p s)) (p .height) most spans-whole (towers-whole many low)
+        rewriting-has (Named t blocks hand) (tableAfter t i p s) links-after t i (length (newColumns t p s)) (p .height) most spans-whole (towers-whole many low)
 
   -- ---- A span unlinked
 
-  unlinking-named : (k : ℕ) → suc k < length (columns t) → (gone : List Tower) → Every (λ w. w .height ≤ 252) gone → Every (Named t hand) (unlinking (without t (suc k)) (suc k) gone)
+  unlinking-named : (k : ℕ) → suc k < length (columns t) → (gone : List Tower) → Every (λ w. w .height ≤ 252) gone → Every (Named t blocks hand) (unlinking (without t (suc k)) (suc k) gone)
   unlinking-named k inside gone low =
-      unlinking-has (Named t hand) (without t (suc k))
+      unlinking-has (Named t blocks hand) (without t (suc k))
       (record {
         spans =
             subst (Every Linkable) (sym (spans-out t k inside))
@@ -277,26 +232,23 @@ module _ (t : Table) (hand : List ℕ) where
 
 -- ---- What is in hand
 
--- the span at place i, the old continuation pages, the pages gone, and free pages
+-- the span at place i, the pages drawn, and those given back
 abbrev pub handOf : Layout → Table → (i : ℕ) → Plan → List ℕ
-handOf L t i p = spanAt t i .page ∷ (p .old ++ (p .gone ++ freePages (L .free)))
+handOf L t i p = spanAt t i .page ∷ (drawnBy L p .pages ++ (drop (p .wanted) (p .old) ++ p .gone))
 
-module _ (q : ℕ) (old gone : List ℕ) (bs : List Block) where
+-- the pages of free-list blocks
+abbrev pub blockPages : Layout → List ℕ
+blockPages L = map (λ b. b .page) (L .free)
+
+module _ (q : ℕ) (drawn given : List ℕ) where
   abbrev pages : List ℕ
-  pages = q ∷ (old ++ (gone ++ freePages bs))
+  pages = q ∷ (drawn ++ given)
 
-  held-old : Every (λ n. 1 ≤ count n pages) old
-  held-old = every-counted (λ n. 1 ≤ count n pages) old (λ n c. omega (arith, count-more n q (old ++ (gone ++ freePages bs)), count-append n old (gone ++ freePages bs)))
+  held-drawn : Every (λ n. 1 ≤ count n pages) drawn
+  held-drawn = every-counted (λ n. 1 ≤ count n pages) drawn (λ n c. omega (arith, count-more n q (drawn ++ given), count-append n drawn given))
 
-  held-gone : Every (λ n. 1 ≤ count n pages) gone
-  held-gone =
-      every-counted (λ n. 1 ≤ count n pages) gone
-      (λ n c. omega (arith, count-more n q (old ++ (gone ++ freePages bs)), count-append n old (gone ++ freePages bs), count-append n gone (freePages bs)))
-
-  held-free : Every (BlockOf (λ n. 1 ≤ count n pages)) bs
-  held-free =
-      blocks-of (λ n. 1 ≤ count n pages) bs
-      (λ n c. omega (arith, count-more n q (old ++ (gone ++ freePages bs)), count-append n old (gone ++ freePages bs), count-append n gone (freePages bs)))
+  held-given : Every (λ n. 1 ≤ count n pages) given
+  held-given = every-counted (λ n. 1 ≤ count n pages) given (λ n c. omega (arith, count-more n q (drawn ++ given), count-append n drawn given))
 
 -- a table's towers are at most 252 high
 low-towers : (r : KeyRule) (t : Table) → TableOk r t → Every (λ w. w .height ≤ 252) (towersOf (columns t))
@@ -306,14 +258,17 @@ low-towers r t ok =
 -- pages drawn for the span at place i, and the span rewritten on them
 module _ (r : KeyRule) (t : Table) (ok : TableOk r t) (i : ℕ) (inside : i < length (columns t)) (bs : List Block) (wanted : ℕ) (room : wanted ≤ length (spanAt t i .conts) + freeCount bs) where
   abbrev hand : List ℕ
-  hand = spanAt t i .page ∷ (spanAt t i .conts ++ ([] ++ freePages bs))
+  hand = spanAt t i .page ∷ (drawnAt t i bs wanted .pages ++ (drop wanted (spanAt t i .conts) ++ []))
+
+  abbrev blocks : List ℕ
+  blocks = map (λ b. b .page) bs
 
   -- the pages drawn are in hand
   drawn-held : Every (λ n. 1 ≤ count n hand) (drawnAt t i bs wanted .pages)
-  drawn-held = drawn-of (λ n. 1 ≤ count n hand) (spanAt t i .conts) wanted [] bs (held-old (spanAt t i .page) (spanAt t i .conts) [] bs) (held-free (spanAt t i .page) (spanAt t i .conts) [] bs)
+  drawn-held = held-drawn (spanAt t i .page) (drawnAt t i bs wanted .pages) (drop wanted (spanAt t i .conts) ++ [])
 
   rewrite-named : (es : List Entry) → length es ≤ t .spanSize + 1 → wantedBy (parts t es) ≤ wanted → TableOk r (tableWith t i es (drawnAt t i bs wanted .pages))
-      → Every (Named t hand) (drawnAt t i bs wanted .writes ++ rewrite t i es (drawnAt t i bs wanted .pages) .writes)
+      → Every (Named t blocks hand) (drawnAt t i bs wanted .writes ++ rewrite t i es (drawnAt t i bs wanted .pages) .writes)
   unfolding rewrite
   rewrite-named es most enough okAfter =
       let P : ℕ → Type 0 = λ n. 1 ≤ count n hand in
@@ -324,9 +279,9 @@ module _ (r : KeyRule) (t : Table) (ok : TableOk r t) (i : ℕ) (inside : i < le
       let h : Every P (s .conts ++ (s .span ++ s .tower)) = subst (Every P) (sym (share-all p ps)) (every-take P (wantedBy p) ps drawn-held) in
       let h2 : Every P (s .span ++ s .tower) = every-right P (s .conts) (s .span ++ s .tower) h in
       let new : pagesIn (towersOf (newColumns t p s)) ≡ s .tower = new-towers r t ok es most ps e in
-      every-join (Named t hand) (drawnAt t i bs wanted .writes) _
-      (drawing-named t hand (spanAt t i .conts) wanted [] bs (held-old (spanAt t i .page) (spanAt t i .conts) [] bs) tt (held-free (spanAt t i .page) (spanAt t i .conts) [] bs))
-      (rewriting-named t hand i inside p s (omega (arith, count-here (spanAt t i .page) (spanAt t i .conts ++ ([] ++ freePages bs))))
+      every-join (Named t blocks hand) (drawnAt t i bs wanted .writes) _
+      (drawing-named t blocks hand (spanAt t i .conts) wanted [] bs refl (held-given (spanAt t i .page) ps (drop wanted (spanAt t i .conts) ++ [])))
+      (rewriting-named t blocks hand i inside p s (omega (arith, count-here (spanAt t i .page) (ps ++ (drop wanted (spanAt t i .conts) ++ []))))
       (every-left P (s .conts) (s .span ++ s .tower) h) (every-left P (s .span) (s .tower) h2) (every-right P (s .span) (s .tower) h2) new
       (omega (arith, height-fits r t ok es, ok .heights .0 .0 .1))
       (sym (length-map (towersOf (newColumns t p s)) (λ (w : Tower). w .page)) ∙ ap length new ∙ share-tower p ps e)
@@ -340,37 +295,38 @@ module _ (L : Layout) (name : List ℕ) (t : Table) (ok : TableOk (keyRule name)
   GoodAfter p = Every (λ n. TableOk (keyRule (n .key)) (n .value)) (layoutAfter L p .tables)
 
   rewritten-named : (i : ℕ) (es : List Entry) → i < length (columns t) → length es ≤ t .spanSize + 1 → lacks L (rewritePlan L name t i es) ≡ false → GoodAfter (rewritePlan L name t i es)
-      → Every (Named t (handOf L t i (rewritePlan L name t i es))) (writesOf L (rewritePlan L name t i es))
+      → Every (Named t (blockPages L) (handOf L t i (rewritePlan L name t i es))) (writesOf L (rewritePlan L name t i es))
   unfolding writesOf layoutAfter rewritePlan rewrite lacks
   rewritten-named i es inside most h good =
       let w : ℕ = wantedBy (parts t es) in
       rewrite-named (keyRule name) t ok i inside (L .free) w (ltb-false (length (spanAt t i .conts) + freeCount (L .free)) w h) es most (omega arith)
       (made-ok (L .tables) name (tableWith t i es (drawnAt t i (L .free) w .pages)) good)
 
-  unlinked-named : (k : ℕ) → suc k < length (columns t) → Every (Named t (handOf L t (suc k) (unlinkPlan L name t (suc k)))) (writesOf L (unlinkPlan L name t (suc k)))
+  unlinked-named : (k : ℕ) → suc k < length (columns t) → Every (Named t (blockPages L) (handOf L t (suc k) (unlinkPlan L name t (suc k)))) (writesOf L (unlinkPlan L name t (suc k)))
   unfolding writesOf unlinkPlan
   unlinked-named k inside =
       let q : ℕ = spanAt t (suc k) .page in
       let old : List ℕ = spanAt t (suc k) .conts in
       let gone : List ℕ = q ∷ map (λ v. v .page) (towersAt t (suc k)) in
-      let hand : List ℕ = q ∷ (old ++ (gone ++ freePages (L .free))) in
+      let hand : List ℕ = q ∷ (draw old 0 gone (L .free) .pages ++ (drop 0 old ++ gone)) in
+      let blocks : List ℕ = blockPages L in
       let low : Tower → Type 0 = λ w. w .height ≤ 252 in
-      every-join (Named t hand) (draw old 0 gone (L .free) .writes) (unlinking (without t (suc k)) (suc k) (towersAt t (suc k)))
-      (drawing-named t hand old 0 gone (L .free) (held-old q old gone (L .free)) (held-gone q old gone (L .free)) (held-free q old gone (L .free)))
-      (unlinking-named t hand k inside (towersAt t (suc k))
+      every-join (Named t blocks hand) (draw old 0 gone (L .free) .writes) (unlinking (without t (suc k)) (suc k) (towersAt t (suc k)))
+      (drawing-named t blocks hand old 0 gone (L .free) refl (held-given q (draw old 0 gone (L .free) .pages) (drop 0 old ++ gone)))
+      (unlinking-named t blocks hand k inside (towersAt t (suc k))
       (every-left low (towersAt t (suc k)) (towersOf (drop 1 (drop (suc k) (columns t))))
       (subst (Every low) (towers-cut 1 (drop (suc k) (columns t)))
       (every-right low (towersOf (take (suc k) (columns t))) (towersOf (drop (suc k) (columns t))) (subst (Every low) (towers-cut (suc k) (columns t)) (low-towers (keyRule name) t ok))))))
 
   left-named : (i : ℕ) (es : List Entry) → i < length (columns t) → length es ≤ t .spanSize → lacks L (leavePlan L name t i es) ≡ false → GoodAfter (leavePlan L name t i es)
-      → Every (Named t (handOf L t i (leavePlan L name t i es))) (writesOf L (leavePlan L name t i es))
+      → Every (Named t (blockPages L) (handOf L t i (leavePlan L name t i es))) (writesOf L (leavePlan L name t i es))
   left-named zero es inside most h good = rewritten-named zero es inside (omega arith) h good
   left-named (suc k) [] inside most h good = unlinked-named k inside
   left-named (suc k) (e ∷ es) inside most h good = rewritten-named (suc k) (e ∷ es) inside (omega arith) h good
 
   -- what put writes
   pub put-named : (k v : List ℕ) → lacks L (putPlan L name t k v) ≡ false → GoodAfter (putPlan L name t k v)
-      → Every (Named t (handOf L t (target (keyRule name) k t) (putPlan L name t k v))) (writesOf L (putPlan L name t k v))
+      → Every (Named t (blockPages L) (handOf L t (target (keyRule name) k t) (putPlan L name t k v))) (writesOf L (putPlan L name t k v))
   unfolding putPlan
   put-named k v h good =
       rewritten-named (target (keyRule name) k t) (putInto (keyRule name) t k v) (target-is (keyRule name) (keys-ordered name) k t ok .place)
@@ -378,7 +334,7 @@ module _ (L : Layout) (name : List ℕ) (t : Table) (ok : TableOk (keyRule name)
 
   -- and remove
   pub remove-named : (k : List ℕ) → lacks L (removePlan L name t k) ≡ false → GoodAfter (removePlan L name t k)
-      → Every (Named t (handOf L t (target (keyRule name) k t) (removePlan L name t k))) (writesOf L (removePlan L name t k))
+      → Every (Named t (blockPages L) (handOf L t (target (keyRule name) k t) (removePlan L name t k))) (writesOf L (removePlan L name t k))
   unfolding removePlan
   remove-named k h good =
       left-named (target (keyRule name) k t) (leftBy (keyRule name) t k) (target-is (keyRule name) (keys-ordered name) k t ok .place)
@@ -388,7 +344,7 @@ module _ (L : Layout) (name : List ℕ) (t : Table) (ok : TableOk (keyRule name)
 
 -- what create writes: on the metaindex as put does, and the new table on pages in hand
 pub create-named : (L : Layout) (name : List ℕ) → TableOk nameRule (L .meta) → lacks L (createPlan L name) ≡ false → TableOk nameRule (layoutAfter L (createPlan L name) .meta)
-    → Every (Named (L .meta) (handOf L (L .meta) (target nameRule name (L .meta)) (createPlan L name))) (writesOf L (createPlan L name))
+    → Every (Named (L .meta) (blockPages L) (handOf L (L .meta) (target nameRule name (L .meta)) (createPlan L name))) (writesOf L (createPlan L name))
 unfolding writesOf layoutAfter createPlan rewrite lacks
 create-named L name ok h okAfter =
     let meta : Table = L .meta in
@@ -398,15 +354,16 @@ create-named L name ok h okAfter =
     let d : Drawn = drawnAt meta i (L .free) (w + 3) in
     let room : w + 3 ≤ length (spanAt meta i .conts) + freeCount (L .free) = ltb-false (length (spanAt meta i .conts) + freeCount (L .free)) (w + 3) h in
     let inside : i < length (columns meta) = target-is nameRule names-ordered name meta ok .place in
-    let hand : List ℕ = spanAt meta i .page ∷ (spanAt meta i .conts ++ ([] ++ freePages (L .free))) in
+    let hand : List ℕ = spanAt meta i .page ∷ (d .pages ++ (drop (w + 3) (spanAt meta i .conts) ++ [])) in
+    let blocks : List ℕ = blockPages L in
     let P : ℕ → Type 0 = λ n. 1 ≤ count n hand in
     let held : Every P (d .pages) = drawn-held nameRule meta ok i inside (L .free) (w + 3) room in
     let new : Every P (getD (d .pages) w 0 ∷ getD (d .pages) (w + 1) 0 ∷ getD (d .pages) (w + 2) 0 ∷ [])
     = subst (Every P) (three (d .pages) w (create-drawn L name h)) (every-drop P w (d .pages) held) in
-    subst (Every (Named meta hand)) (append-assoc (d .writes) (rewrite meta i es (d .pages) .writes) (wholeTable (created L name)))
-    (every-join (Named meta hand) (d .writes ++ rewrite meta i es (d .pages) .writes) (wholeTable (created L name))
+    subst (Every (Named meta blocks hand)) (append-assoc (d .writes) (rewrite meta i es (d .pages) .writes) (wholeTable (created L name)))
+    (every-join (Named meta blocks hand) (d .writes ++ rewrite meta i es (d .pages) .writes) (wholeTable (created L name))
     (rewrite-named nameRule meta ok i inside (L .free) (w + 3) room es (put-few nameRule names-ordered meta ok name (word32 (created L name .root)))
     (omega (arith, meta-wanted L name (created L name .root))) okAfter)
-    (table-has (Named meta hand) (created L name) (any meta hand (created L name .root) 0 1024 (omega arith) (new .0))
-    (span-any meta hand (created L name .first) (new .1 .0, tt), tt)
-    ((omega arith, any meta hand (created L name .head .page) 0 1024 (omega arith) (new .1 .1 .0)), tt)))
+    (table-has (Named meta blocks hand) (created L name) (any meta blocks hand (created L name .root) 0 1024 (omega arith) (new .0))
+    (span-any meta blocks hand (created L name .first) (new .1 .0, tt), tt)
+    ((omega arith, any meta blocks hand (created L name .head .page) 0 1024 (omega arith) (new .1 .1 .0)), tt)))

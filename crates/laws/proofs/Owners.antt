@@ -1,15 +1,17 @@
 -- The pages of an image by their owners: the superblock, the tables and their parts, the free list.
-use Prim.Native.Nat.{ℕ, _+_, _<_, _≤_}
+use Prim.Native.Nat.{ℕ, zero, suc, _+_, _-_, _<_, _≤_}
 use native.Mathlib.Omega.{arith}
 use mathlib.Core.Path.{_≡_, refl, ap, sym, _∙_}
 use mathlib.Core.Bool.{Bool, true, false, cond}
 use mathlib.Core.Option.{some}
 use mathlib.Core.List.{List, [], _∷_, _++_, map, map-append}
-use lib.ListN.{length, take, drop}
+use lib.ListN.{length, getD, take, drop, take-append-drop}
+use lib.Seq.{take-suc, take-all}
 use Rattle.blockfile.specs.Bytes.{gather}
-use Rattle.blockfile.specs.Layout.{Keyed, Span, Tower, Table, Layout, columns, spansOf, towersOf}
+use Rattle.blockfile.specs.Layout.{Keyed, Span, Tower, Table, Block, Layout, columns, spansOf, towersOf}
 use Rattle.blockfile.specs.Order.{same, find}
-use Rattle.blockfile.specs.WellFormed.{span, tower, count, spansIn, towersIn, tablePieces, pieces}
+use Rattle.blockfile.specs.WellFormed.{span, tower, freePage, count, spansIn, towersIn, tablePieces, freePieces, pieces}
+use Rattle.blockfile.specs.Free.{Drawn, takeFrom, takePage, takeMany, giveMany, draw}
 use Rattle.blockfile.specs.Put.{spanAt}
 use Rattle.blockfile.specs.Remove.{towersAt}
 use Rattle.blockfile.proofs.Bools.{holds, same-eq}
@@ -20,6 +22,7 @@ use Rattle.laws.proofs.Maps.{differ}
 use Rattle.laws.proofs.Places.{gather-append}
 use Rattle.laws.proofs.State.{spanPages}
 use Rattle.laws.proofs.Opens.{owned-spans, owned-towers}
+use Rattle.laws.proofs.Draws.{none-given}
 use Rattle.laws.proofs.SpanLinks.{spansTo, spansPast, link-between, spans-here}
 use Rattle.laws.proofs.TowerLinks.{pagesIn}
 use Rattle.laws.proofs.Relinks.{towers-cut}
@@ -134,4 +137,56 @@ module _ (n : ℕ) where
         ap (λ (ws : List Tower). count n (pagesIn ws)) (towers-cut 1 (drop i (columns t))),
         ap (count n) (map-append (λ (w : Tower). w .page) (towersAt t i) (towersOf (drop 1 (drop i (columns t))))),
         count-append n (pagesIn (towersAt t i)) (pagesIn (towersOf (drop 1 (drop i (columns t))))),
+      )
+
+  -- ---- Free pages
+
+  count-free : (b : Block) (bs : List Block) → count n (freePages (b ∷ bs)) ≡ count n (b .page ∷ []) + (count n (b .listed) + count n (freePages bs))
+  count-free b bs = omega (arith, count-owned n (map freePage (b .listed)) (freePieces bs), count-listed (b .listed))
+    where
+      count-listed : (ls : List ℕ) → count n (ownedBy (map freePage ls)) ≡ count n ls
+      count-listed [] = refl
+      count-listed (l ∷ ls) = omega (arith, count-listed ls)
+
+  -- blocks are free pages
+  pub blocks-count : (bs : List Block) → count n (map (λ b. b .page) bs) ≤ count n (freePages bs)
+  blocks-count [] = omega arith
+  blocks-count (b ∷ bs) = omega (arith, count-free b bs, blocks-count bs)
+
+  take-count : (q : ℕ) (ws : List ℕ) (c : ℕ) (bs : List Block) → length ws ≡ c
+      → count n (takeFrom q ws c bs .pages) + count n (freePages (takeFrom q ws c bs .free)) ≤ count n (q ∷ []) + (count n ws + count n (freePages bs))
+  take-count q ws zero bs e = omega arith
+  take-count q ws (suc c) bs e =
+      let s : ws ≡ take c ws ++ getD ws c 0 ∷ [] = sym (take-all (suc c) ws (omega arith)) ∙ take-suc ws c 0 (omega arith) in
+      omega (arith, ap (count n) s, count-append n (take c ws) (getD ws c 0 ∷ []), count-free (record { page = q; listed = take c ws }) bs)
+
+  taken-count : (k : ℕ) (bs : List Block) → count n (takeMany k bs .pages) + count n (freePages (takeMany k bs .free)) ≤ count n (freePages bs)
+  taken-count zero bs = omega arith
+  taken-count (suc k) [] = taken-count k []
+  taken-count (suc k) (b ∷ bs) =
+      omega (
+        arith,
+        count-append n (takePage (b ∷ bs) .pages) (takeMany k (takePage (b ∷ bs) .free) .pages),
+        taken-count k (takePage (b ∷ bs) .free),
+        take-count (b .page) (b .listed) (length (b .listed)) bs refl,
+        count-free b bs,
+      )
+
+  pub take-drop-count : (k : ℕ) (ns : List ℕ) → count n ns ≡ count n (take k ns) + count n (drop k ns)
+  take-drop-count k ns = ap (count n) (sym (take-append-drop k ns)) ∙ count-append n (take k ns) (drop k ns)
+
+  -- pages drawn, and those left over, are old pages and free ones
+  pub drawn-count : (old : List ℕ) (wanted : ℕ) (gone : List ℕ) (bs : List Block)
+      → count n (draw old wanted gone bs .pages) + count n (drop wanted old) ≤ count n old + count n (freePages bs)
+  unfolding draw
+  drawn-count old wanted gone bs =
+      let t : Drawn = takeMany (wanted - length old) bs in
+      let g : List ℕ = giveMany (drop wanted old ++ gone) (t .free) .pages in
+      omega (
+        arith,
+        count-append n (take wanted old) (t .pages ++ g),
+        count-append n (t .pages) g,
+        ap (count n) (none-given (drop wanted old ++ gone) (t .free)),
+        taken-count (wanted - length old) bs,
+        take-drop-count wanted old,
       )

@@ -6,14 +6,14 @@ use mathlib.Core.Logic.{_⊎_, inl, inr}
 use mathlib.Core.Bool.{Bool, true, false, cond}
 use mathlib.Core.Option.{Option, none, some}
 use mathlib.Core.List.{List, [], _∷_, _++_}
-use lib.ListN.{length, getD}
+use lib.ListN.{length, getD, drop}
 use Rattle.blockfile.specs.declared.Refusal.{Refusal}
 use Rattle.blockfile.specs.declared.Refusal.the-variants.{NoRoom}
 use Rattle.blockfile.specs.Bytes.{pg, Write, apply, Every, gather}
 use Rattle.blockfile.specs.Layout.{Entry, Table, Block, Layout, columns, spansOf, towersOf, freeCount}
 use Rattle.blockfile.specs.Order.{nameRule, keyRule, same, find}
 use Rattle.blockfile.specs.WellFormed.{count, TableOk, WellFormed}
-use Rattle.blockfile.specs.Plan.{Plan, lacks, layoutAfter, writesOf}
+use Rattle.blockfile.specs.Plan.{Plan, drawnBy, lacks, layoutAfter, writesOf}
 use Rattle.blockfile.specs.Put.{target, spanAt, rewritePlan, putPlan}
 use Rattle.blockfile.specs.Remove.{towersAt, unlinkPlan, leavePlan, removePlan}
 use Rattle.blockfile.specs.Create.{createPlan}
@@ -35,18 +35,19 @@ use Rattle.laws.proofs.Allowed.{OnTable, put-allowed, remove-allowed, c
 use Rattle.laws.proofs.Ledgers.{on-table}
 use Rattle.laws.proofs.Spots.{inOption}
 use Rattle.laws.proofs.Preserves.{well-after}
-use Rattle.laws.proofs.Owners.{tablePages, namedPages, pagesUnder, firstPages, contPages, count-pages, under-named, names-apart, count-table, count-span, count-towers}
-use Rattle.laws.proofs.Names.{Part, Named, first-free, counts, height, links, entries, in-hand, handOf, put-named, remove-named, create-named}
+use Rattle.laws.proofs.Owners.{tablePages, namedPages, pagesUnder, firstPages, contPages, count-pages, under-named, names-apart, count-table, count-span, count-towers, take-drop-count, blocks-count, drawn-count}
+use Rattle.laws.proofs.Names.{Part, Named, first-free, counts, height, links, entries, listing, in-hand, handOf, blockPages, put-named, remove-named, create-named}
 
 -- ---- From writes to bytes
 
 -- the v bytes from offset a on of page n are in no part that a call on the table t names
-pub record Spared (t : Table) (hand : List ℕ) (n a v : ℕ) : Type 0 where
+pub record Spared (t : Table) (blocks hand : List ℕ) (n a v : ℕ) : Type 0 where
   pub first-free : (count n (1 ∷ []) ≡ 0) ⊎ Apart a v 16 4
   pub counts : (count n (t .root ∷ []) ≡ 0) ⊎ Apart a v 16 12
   pub height : (count n (t .head .page ∷ []) ≡ 0) ⊎ Apart a v 10 2
   pub links : (count n (firstPages (spansOf (columns t))) ≡ 0) ⊎ Apart a v 8 8
   pub entries : (count n (pagesIn (towersOf (columns t))) ≡ 0) ⊎ Apart a v 16 1008
+  pub listing : (count n blocks ≡ 0) ⊎ Apart a v 12 1012
   pub in-hand : (count n hand ≡ 0) ⊎ Apart a v 0 1024
 
 module _ (n : ℕ) where
@@ -60,57 +61,60 @@ module _ (n : ℕ) where
     part-missed ns lo size w p (inr (inl h)) = inr (inl (omega (arith, p .low)))
     part-missed ns lo size w p (inr (inr h)) = inr (inr (omega (arith, p .high)))
 
-    named-missed : (t : Table) (hand : List ℕ) → Spared t hand n a v → (w : Write) → Named t hand w → Misses n a v w
-    named-missed t hand s w (first-free p) = part-missed (1 ∷ []) 16 4 w p (s .first-free)
-    named-missed t hand s w (counts p) = part-missed (t .root ∷ []) 16 12 w p (s .counts)
-    named-missed t hand s w (height p) = part-missed (t .head .page ∷ []) 10 2 w p (s .height)
-    named-missed t hand s w (links p) = part-missed (firstPages (spansOf (columns t))) 8 8 w p (s .links)
-    named-missed t hand s w (entries p) = part-missed (pagesIn (towersOf (columns t))) 16 1008 w p (s .entries)
-    named-missed t hand s w (in-hand p) = part-missed hand 0 1024 w p (s .in-hand)
+    named-missed : (t : Table) (blocks hand : List ℕ) → Spared t blocks hand n a v → (w : Write) → Named t blocks hand w → Misses n a v w
+    named-missed t blocks hand s w (first-free p) = part-missed (1 ∷ []) 16 4 w p (s .first-free)
+    named-missed t blocks hand s w (counts p) = part-missed (t .root ∷ []) 16 12 w p (s .counts)
+    named-missed t blocks hand s w (height p) = part-missed (t .head .page ∷ []) 10 2 w p (s .height)
+    named-missed t blocks hand s w (links p) = part-missed (firstPages (spansOf (columns t))) 8 8 w p (s .links)
+    named-missed t blocks hand s w (entries p) = part-missed (pagesIn (towersOf (columns t))) 16 1008 w p (s .entries)
+    named-missed t blocks hand s w (listing p) = part-missed blocks 12 1012 w p (s .listing)
+    named-missed t blocks hand s w (in-hand p) = part-missed hand 0 1024 w p (s .in-hand)
 
-named-fits : (t : Table) (hand : List ℕ) (w : Write) → Named t hand w → Fits w
-named-fits t hand w (first-free p) = omega (arith, p .high)
-named-fits t hand w (counts p) = omega (arith, p .high)
-named-fits t hand w (height p) = omega (arith, p .high)
-named-fits t hand w (links p) = omega (arith, p .high)
-named-fits t hand w (entries p) = omega (arith, p .high)
-named-fits t hand w (in-hand p) = omega (arith, p .high)
+named-fits : (t : Table) (blocks hand : List ℕ) (w : Write) → Named t blocks hand w → Fits w
+named-fits t blocks hand w (first-free p) = omega (arith, p .high)
+named-fits t blocks hand w (counts p) = omega (arith, p .high)
+named-fits t blocks hand w (height p) = omega (arith, p .high)
+named-fits t blocks hand w (links p) = omega (arith, p .high)
+named-fits t blocks hand w (entries p) = omega (arith, p .high)
+named-fits t blocks hand w (listing p) = omega (arith, p .high)
+named-fits t blocks hand w (in-hand p) = omega (arith, p .high)
 
 -- the page of such a write
-named-page : (t : Table) (hand : List ℕ) (w : Write) → Named t hand w → 1 ≤ count (w .page) (1 ∷ []) + (count (w .page) (tablePages t) + count (w .page) hand)
-named-page t hand w (first-free p) = omega (arith, p .page)
-named-page t hand w (counts p) = omega (arith, p .page, count-table (w .page) t)
-named-page t hand w (height p) = omega (arith, p .page, count-table (w .page) t)
-named-page t hand w (links p) = omega (arith, p .page, count-table (w .page) t)
-named-page t hand w (entries p) = omega (arith, p .page, count-table (w .page) t)
-named-page t hand w (in-hand p) = omega (arith, p .page)
+named-page : (t : Table) (blocks hand : List ℕ) (w : Write) → Named t blocks hand w → 1 ≤ count (w .page) (1 ∷ []) + (count (w .page) (tablePages t) + (count (w .page) blocks + count (w .page) hand))
+named-page t blocks hand w (first-free p) = omega (arith, p .page)
+named-page t blocks hand w (counts p) = omega (arith, p .page, count-table (w .page) t)
+named-page t blocks hand w (height p) = omega (arith, p .page, count-table (w .page) t)
+named-page t blocks hand w (links p) = omega (arith, p .page, count-table (w .page) t)
+named-page t blocks hand w (entries p) = omega (arith, p .page, count-table (w .page) t)
+named-page t blocks hand w (listing p) = omega (arith, p .page)
+named-page t blocks hand w (in-hand p) = omega (arith, p .page)
 
 no-page : (img : List ℕ) → pg img 0 ≡ []
 unfolding pg
 no-page img = refl
 
-module _ (t : Table) (hand : List ℕ) (ws : List Write) (img : List ℕ) (named : Every (Named t hand) ws) (n : ℕ) where
+module _ (t : Table) (blocks hand : List ℕ) (ws : List Write) (img : List ℕ) (named : Every (Named t blocks hand) ws) (n : ℕ) where
   -- bytes that no part names are as they were
-  pub bytes-stay : (a v : ℕ) → Spared t hand n a v → Agree v (pg (apply ws img) n) a (pg img n) a
+  pub bytes-stay : (a v : ℕ) → Spared t blocks hand n a v → Agree v (pg (apply ws img) n) a (pg img n) a
   bytes-stay a v s =
       agree-pages n
-      (λ pos. agree-apply n a v ws img pos (every-so (Named t hand) (named-fits t hand) ws named) (every-so (Named t hand) (named-missed n a v t hand s) ws named))
+      (λ pos. agree-apply n a v ws img pos (every-so (Named t blocks hand) (named-fits t blocks hand) ws named) (every-so (Named t blocks hand) (named-missed n a v t blocks hand s) ws named))
     where
       -- there is no page 0
       agree-pages : (m : ℕ) → (1 ≤ m → Agree v (pg (apply ws img) m) a (pg img m) a) → Agree v (pg (apply ws img) m) a (pg img m) a
       agree-pages zero h = λ k q. ap (λ (b : List ℕ). getD b (a + k) 0) (no-page (apply ws img) ∙ sym (no-page img))
       agree-pages (suc m) h = h (omega arith)
 
-  -- and so is a whole page that is not the table's, nor in hand, nor the superblock
-  pub named-elsewhere : count n (1 ∷ []) + (count n (tablePages t) + count n hand) ≡ 0 → pg (apply ws img) n ≡ pg img n
+  -- and so is a whole page that is not the superblock, nor the table's, nor a block, nor in hand
+  pub named-elsewhere : count n (1 ∷ []) + (count n (tablePages t) + (count n blocks + count n hand)) ≡ 0 → pg (apply ws img) n ≡ pg img n
   named-elsewhere z =
-      pg-apply-other n ws img (every-so (Named t hand) (named-fits t hand) ws named)
-      (every-so (Named t hand) (λ w h e. off w (named-page t hand w h) e) ws named)
+      pg-apply-other n ws img (every-so (Named t blocks hand) (named-fits t blocks hand) ws named)
+      (every-so (Named t blocks hand) (λ w h e. off w (named-page t blocks hand w h) e) ws named)
     where
-      off : (w : Write) → 1 ≤ count (w .page) (1 ∷ []) + (count (w .page) (tablePages t) + count (w .page) hand) → n ≡ w .page → ⊥
+      off : (w : Write) → 1 ≤ count (w .page) (1 ∷ []) + (count (w .page) (tablePages t) + (count (w .page) blocks + count (w .page) hand)) → n ≡ w .page → ⊥
       off w c e =
-          let d : count n (1 ∷ []) + (count n (tablePages t) + count n hand) ≡ count (w .page) (1 ∷ []) + (count (w .page) (tablePages t) + count (w .page) hand)
-          = ap (λ (m : ℕ). count m (1 ∷ []) + (count m (tablePages t) + count m hand)) e in
+          let d : count n (1 ∷ []) + (count n (tablePages t) + (count n blocks + count n hand)) ≡ count (w .page) (1 ∷ []) + (count (w .page) (tablePages t) + (count (w .page) blocks + count (w .page) hand))
+          = ap (λ (m : ℕ). count m (1 ∷ []) + (count m (tablePages t) + (count m blocks + count m hand))) e in
           omega arith
 
 -- ---- What a done call changes
@@ -135,7 +139,7 @@ pub record Change (L : Layout) (ts : List Table) (p : Plan) : Type 0 where
   pub gone : (n : ℕ) → count n (p .gone) ≤ count n (firstPages (spansOf (columns table))) + count n (pagesIn (towersOf (columns table)))
   -- the superblock, the table and the free list share no page
   pub once : (n : ℕ) → count n (1 ∷ []) + (count n (tablePages table) + count n (freePages (L .free))) ≤ 1
-  pub named : Every (Named table (handOf L table place p)) (writesOf L p)
+  pub named : Every (Named table (blockPages L) (handOf L table place p)) (writesOf L p)
 
 module _ (img : List ℕ) (L : Layout) (w : WellFormed img L) where
   -- each page is owned at most once
@@ -154,7 +158,7 @@ module _ (img : List ℕ) (L : Layout) (w : WellFormed img L) where
         )
 
     abbrev Changed : (i : ℕ) → Plan → Type 0
-    Changed i p = Every (Named t (handOf L t i p)) (writesOf L p) → Change L (inOption (find name (L .tables))) p
+    Changed i p = Every (Named t (blockPages L) (handOf L t i p)) (writesOf L p) → Change L (inOption (find name (L .tables))) p
 
     rewrite-change : (i : ℕ) (es : List Entry) → i < length (columns t) → Changed i (rewritePlan L name t i es)
     unfolding rewritePlan
@@ -252,7 +256,11 @@ module _ (img : List ℕ) (L : Layout) (ts : List Table) (p : Plan) (c : Change 
     span : count n (spanAt (c .table) (c .place) .page ∷ []) ≤ count n (firstPages (spansOf (columns (c .table))))
     conts : count n (p .old) ≤ count n (contPages (spansOf (columns (c .table))))
     gone : count n (p .gone) ≤ count n (firstPages (spansOf (columns (c .table)))) + count n (pagesIn (towersOf (columns (c .table))))
-    hand : count n (handOf L (c .table) (c .place) p) ≡ count n (spanAt (c .table) (c .place) .page ∷ []) + (count n (p .old) + (count n (p .gone) + count n (freePages (L .free))))
+    hand : count n (handOf L (c .table) (c .place) p)
+        ≡ count n (spanAt (c .table) (c .place) .page ∷ []) + (count n (drawnBy L p .pages) + (count n (drop (p .wanted) (p .old)) + count n (p .gone)))
+    drawn : count n (drawnBy L p .pages) + count n (drop (p .wanted) (p .old)) ≤ count n (p .old) + count n (freePages (L .free))
+    given : count n (drop (p .wanted) (p .old)) ≤ count n (p .old)
+    blocks : count n (blockPages L) ≤ count n (freePages (L .free))
 
   counted : (n : ℕ) → Counts n
   counted n =
@@ -263,11 +271,29 @@ module _ (img : List ℕ) (L : Layout) (ts : List Table) (p : Plan) (c : Change 
         span = count-span n (c .table) (c .place) (c .inside) .0;
         conts = omega (arith, ap (count n) (c .old), count-span n (c .table) (c .place) (c .inside) .1);
         gone = c .gone n;
-        hand = omega (arith, count-append n (p .old) (p .gone ++ freePages (L .free)), count-append n (p .gone) (freePages (L .free)));
+        hand = omega (arith, count-append n (drawnBy L p .pages) (drop (p .wanted) (p .old) ++ p .gone), count-append n (drop (p .wanted) (p .old)) (p .gone));
+        drawn = drawn-count n (p .old) (p .wanted) (p .gone) (L .free);
+        given = omega (arith, take-drop-count n (p .wanted) (p .old));
+        blocks = blocks-count n (L .free);
       }
 
-  stays-by : (n a v : ℕ) → Spared (c .table) (handOf L (c .table) (c .place) p) n a v → Agree v (pg after n) a (pg img n) a
-  stays-by n a v s = bytes-stay (c .table) (handOf L (c .table) (c .place) p) (writesOf L p) img (c .named) n a v s
+  stays-by : (n a v : ℕ) → Spared (c .table) (blockPages L) (handOf L (c .table) (c .place) p) n a v → Agree v (pg after n) a (pg img n) a
+  stays-by n a v s = bytes-stay (c .table) (blockPages L) (handOf L (c .table) (c .place) p) (writesOf L p) img (c .named) n a v s
+
+  -- a free page that is not drawn is in no part but a block's
+  free-spared : (n a v : ℕ) → count n (drawnBy L p .pages) ≡ 0 → 1 ≤ count n (freePages (L .free)) → (count n (blockPages L) ≡ 0) ⊎ Apart a v 12 1012
+      → Spared (c .table) (blockPages L) (handOf L (c .table) (c .place) p) n a v
+  free-spared n a v kept is h =
+      let k : Counts n = counted n in
+      record {
+        first-free = inl (omega (arith, k .once));
+        counts = inl (omega (arith, k .once, k .parts));
+        height = inl (omega (arith, k .once, k .parts, k .head));
+        links = inl (omega (arith, k .once, k .parts));
+        entries = inl (omega (arith, k .once, k .parts));
+        listing = h;
+        in-hand = inl (omega (arith, k .once, k .parts, k .span, k .conts, k .gone, k .given, k .hand));
+      }
 
   -- the superblock but for bytes 16 to 19
   pub super-bytes : (a v : ℕ) → Apart a v 16 4 → Agree v (pg after 1) a (pg img 1) a
@@ -280,7 +306,8 @@ module _ (img : List ℕ) (L : Layout) (ts : List Table) (p : Plan) (c : Change 
         height = inl (omega (arith, k .once, k .parts, k .head));
         links = inl (omega (arith, k .once, k .parts));
         entries = inl (omega (arith, k .once, k .parts));
-        in-hand = inl (omega (arith, k .once, k .parts, k .span, k .conts, k .gone, k .hand));
+        listing = inl (omega (arith, k .once, k .parts, k .blocks));
+        in-hand = inl (omega (arith, k .once, k .parts, k .span, k .conts, k .gone, k .drawn, k .hand));
       })
 
   -- the table's skip-list page but for bytes 16 to 27
@@ -295,7 +322,8 @@ module _ (img : List ℕ) (L : Layout) (ts : List Table) (p : Plan) (c : Change 
         height = inl (omega (arith, k .once, k .parts, k .head));
         links = inl (omega (arith, k .once, k .parts));
         entries = inl (omega (arith, k .once, k .parts));
-        in-hand = inl (omega (arith, k .once, k .parts, k .span, k .conts, k .gone, k .hand));
+        listing = inl (omega (arith, k .once, k .parts, k .blocks));
+        in-hand = inl (omega (arith, k .once, k .parts, k .span, k .conts, k .gone, k .drawn, k .hand));
       })
 
   -- a tower that is not gone, before its entries; the head but for bytes 10 and 11
@@ -310,7 +338,8 @@ module _ (img : List ℕ) (L : Layout) (ts : List Table) (p : Plan) (c : Change 
         height = head;
         links = inl (omega (arith, k .once, k .parts));
         entries = inr (inl low);
-        in-hand = inl (omega (arith, k .once, k .parts, k .span, k .conts, k .hand));
+        listing = inl (omega (arith, k .once, k .parts, k .blocks));
+        in-hand = inl (omega (arith, k .once, k .parts, k .span, k .conts, k .drawn, k .hand));
       })
 
   -- another span that is not gone, but for bytes 8 to 15
@@ -325,7 +354,8 @@ module _ (img : List ℕ) (L : Layout) (ts : List Table) (p : Plan) (c : Change 
         height = inl (omega (arith, k .once, k .parts, k .head));
         links = inr off;
         entries = inl (omega (arith, k .once, k .parts));
-        in-hand = inl (omega (arith, k .once, k .parts, k .conts, k .hand));
+        listing = inl (omega (arith, k .once, k .parts, k .blocks));
+        in-hand = inl (omega (arith, k .once, k .parts, k .conts, k .drawn, k .hand));
       })
 
   -- another span's continuation pages
@@ -339,14 +369,23 @@ module _ (img : List ℕ) (L : Layout) (ts : List Table) (p : Plan) (c : Change 
         height = inl (omega (arith, k .once, k .parts, k .head));
         links = inl (omega (arith, k .once, k .parts));
         entries = inl (omega (arith, k .once, k .parts));
-        in-hand = inl (omega (arith, k .once, k .parts, k .span, k .gone, k .hand));
+        listing = inl (omega (arith, k .once, k .parts, k .blocks));
+        in-hand = inl (omega (arith, k .once, k .parts, k .span, k .gone, k .drawn, k .hand));
       })
+
+  -- a free-list block that is not drawn, before its count
+  pub block-bytes : (n : ℕ) → 1 ≤ count n (blockPages L) → count n (drawnBy L p .pages) ≡ 0 → (a v : ℕ) → a + v ≤ 12 → Agree v (pg after n) a (pg img n) a
+  block-bytes n is kept a v low = stays-by n a v (free-spared n a v kept (omega (arith, counted n .blocks)) (inr (inl low)))
+
+  -- a listed page that is not drawn
+  pub listed-bytes : (n : ℕ) → 1 ≤ count n (freePages (L .free)) → count n (blockPages L) ≡ 0 → count n (drawnBy L p .pages) ≡ 0 → (a v : ℕ) → Agree v (pg after n) a (pg img n) a
+  listed-bytes n is other kept a v = stays-by n a v (free-spared n a v kept is (inl other))
 
   -- every other page: not the superblock, not of the table, not free
   pub other-page : (n : ℕ) → count n (1 ∷ []) + (count n (tablePages (c .table)) + count n (freePages (L .free))) ≡ 0 → pg after n ≡ pg img n
   other-page n z =
       let k : Counts n = counted n in
-      named-elsewhere (c .table) (handOf L (c .table) (c .place) p) (writesOf L p) img (c .named) n (omega (arith, k .parts, k .span, k .conts, k .gone, k .hand))
+      named-elsewhere (c .table) (blockPages L) (handOf L (c .table) (c .place) p) (writesOf L p) img (c .named) n (omega (arith, k .parts, k .span, k .conts, k .gone, k .drawn, k .hand, k .blocks))
 
 -- ---- Each call
 
