@@ -3,9 +3,9 @@ use Prim.Native.Nat.{ℕ}
 use mathlib.Core.Path.{_≡_, sym, subst₂}
 use mathlib.Core.List.{List, [], _∷_}
 use Rattle.blockfile.specs.Calls.{Keeps}
-use Rattle.blockfile.specs.History.{Event, Run, Demand3}
+use Rattle.blockfile.specs.History.{Event, Demand3}
 use Rattle.laws.proofs.Preserves.{demand-three}
-use Rattle.history.specs.Functions.{Made, checked, got, stepped, written, Calls, NothingAsked}
+use Rattle.history.specs.Functions.{Made, checked, got, stepped, written, NothingAsked}
 use Rattle.history.specs.Runs.{History, ContractsRun}
 
 -- no function has a precondition

@@ -3,8 +3,6 @@ use Prim.Native.Nat.{ℕ}
 use native.Mathlib.Omega.{arith}
 use mathlib.Core.Path.{_≡_, refl, ap, ap₂, sym, subst}
 use mathlib.Core.List.{List, [], _∷_, map}
-use lib.ListN.{length}
-use Rattle.blockfile.specs.Refusals.{Op, Reply}
 use Rattle.blockfile.specs.Calls.{Keeps}
 use Rattle.blockfile.specs.History.{Event, Run}
 use Rattle.laws.proofs.Outcomes.{Left, outcome}

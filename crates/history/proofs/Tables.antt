@@ -1,13 +1,12 @@
 -- The tables of a well-formed image are finite maps, and its towers are chained.
 use Prim.Native.Nat.{ℕ}
-use mathlib.Core.Path.{subst}
 use mathlib.Core.List.{List, [], _∷_, _++_, map}
 use Rattle.blockfile.specs.Bytes.{pg, Every, gather}
-use Rattle.blockfile.specs.Layout.{Keyed, Entry, Table, Layout, entriesOf}
-use Rattle.blockfile.specs.Order.{KeyRule, nameRule, keyRule, Rising, above}
-use Rattle.blockfile.specs.WellFormed.{Piece, span, tower, Bears, spansIn, towersIn, tablePieces, freePieces, TableOk, WellFormed}
+use Rattle.blockfile.specs.Layout.{Keyed, Entry, Table, entriesOf}
+use Rattle.blockfile.specs.Order.{KeyRule, nameRule, keyRule, Rising}
+use Rattle.blockfile.specs.WellFormed.{Piece, span, tower, Bears, spansIn, towersIn, tablePieces, freePieces, TableOk}
 use Rattle.blockfile.specs.Refusals.{ledgerOf}
-use Rattle.blockfile.proofs.Every.{every-left, every-right, every-so, every-map}
+use Rattle.blockfile.proofs.Every.{every-left, every-right}
 use Rattle.laws.proofs.Orders.{Ordered, names-ordered, keys-ordered}
 use Rattle.laws.proofs.Maps.{Least, insert-found, insert-others, insert-rising, erase-found, erase-others, erase-rising, above-some, above-none}
 use Rattle.laws.proofs.Chains.{chain}

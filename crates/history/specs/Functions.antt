@@ -52,12 +52,12 @@ Calls img [] = Unit {0}
 Calls img (e ∷ es) = Made img e × Calls (e .image) es
 
 -- a function asks nothing of its caller
-abbrev pub Free : {n : ℕ} (params : List (PK n)) → In n params → Type 0
-Free {n} params Asks = (κs : Lfts n) (args : Dens κs params) → Asks κs args
+abbrev pub AsksNothing : {n : ℕ} (params : List (PK n)) → In n params → Type 0
+AsksNothing {n} params Asks = (κs : Lfts n) (args : Dens κs params) → Asks κs args
 
 -- none of them does
 pub record NothingAsked : Type 0 where
-  pub check : Free check-kinds.ps check-reads.Asked
-  pub get : Free get-kinds.ps get-reads.Asked
-  pub next : Free next-kinds.ps next-reads.Asked
-  pub put : Free put-kinds.ps put-reads.Asked
+  pub check : AsksNothing check-kinds.ps check-reads.Asked
+  pub get : AsksNothing get-kinds.ps get-reads.Asked
+  pub next : AsksNothing next-kinds.ps next-reads.Asked
+  pub put : AsksNothing put-kinds.ps put-reads.Asked

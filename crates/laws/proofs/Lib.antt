@@ -52,6 +52,7 @@ pub mod Unlinks
 pub mod Creates
 pub mod Preserves
 pub mod Touches
+pub mod Given
 pub mod Owners
 pub mod Names
 pub mod Stays

@@ -1,39 +1,36 @@
 -- Which fields put, remove and create write: on pages that are not in hand only the superblock's first free-list page, the counts, the
 -- head's current height, links of spans and entries of towers.
-use Prim.Native.Nat.{ℕ, zero, suc, _+_, _-_, _<_, _≤_, min}
+use Prim.Native.Nat.{ℕ, zero, suc, _+_, _<_, _≤_, min}
 use native.Mathlib.Omega.{arith}
 use mathlib.Core.Path.{_≡_, refl, ap, sym, _∙_, subst}
-use mathlib.Core.List.{List, [], _∷_, _++_, map, append-assoc}
+use mathlib.Core.List.{List, [], _∷_, _++_, map}
 use mathlib.Core.Bool.{false}
 use lib.ListN.{length, take, drop, getD, length-map}
-use lib.Seq.{take-suc, take-all}
 use borrow.Author.Tests.{ltb-false}
-use Rattle.blockfile.specs.Bytes.{Write, word32, Every, gather}
-use Rattle.blockfile.specs.Layout.{Entry, Span, Tower, Column, Table, Block, Layout, columns, spansOf, towersOf, freeCount}
+use Rattle.blockfile.specs.Bytes.{Write, word32, Every}
+use Rattle.blockfile.specs.Layout.{Entry, Span, Tower, Table, Block, Layout, columns, spansOf, towersOf, freeCount}
 use Rattle.blockfile.specs.Order.{KeyRule, nameRule, keyRule, Within}
 use Rattle.blockfile.specs.Fields.{LinkedSpan, LinkedTower}
-use Rattle.blockfile.specs.WellFormed.{freePage, count, nextAt, linkTowers, spansIn, towersIn, freePieces, TableOk}
-use Rattle.blockfile.specs.Free.{Drawn, takeFrom, takePage, takeMany, giveMany, draw}
-use Rattle.blockfile.specs.Plan.{Plan, drawnBy, lacks, layoutAfter, writesOf}
+use Rattle.blockfile.specs.WellFormed.{count, nextAt, linkTowers, spansIn, TableOk}
+use Rattle.blockfile.specs.Free.{Drawn, draw}
+use Rattle.blockfile.specs.Plan.{Plan, drawnBy, lacks, layoutAfter}
 use Rattle.blockfile.specs.Put.{Parts, Shared, target, parts, wantedBy, share, newColumns, rewriting, rewrite, rewritePlan, putPlan, spanAt, tableAfter}
 use Rattle.blockfile.specs.Remove.{without, towersAt, unlinking, unlinkPlan, leavePlan, removePlan}
 use Rattle.blockfile.specs.Create.{wholeTable, createPlan}
-use Rattle.blockfile.proofs.Every.{every-left, every-right, every-join, every-so, every-both, every-map, every-unmap}
-use Rattle.blockfile.proofs.Count.{count-here, count-append, count-more, every-counted}
-use Rattle.blockfile.proofs.Owned.{ownedBy, count-owned}
-use Rattle.laws.specs.FreeList.{freePages}
-use Rattle.laws.proofs.Places.{every-take, every-drop, towers-append}
+use Rattle.blockfile.proofs.Every.{every-left, every-right, every-join, every-so, every-both, every-unmap}
+use Rattle.blockfile.proofs.Count.{count-here, count-append, every-counted}
+use Rattle.laws.proofs.Places.{every-take, every-drop}
 use Rattle.laws.proofs.Orders.{names-ordered, keys-ordered}
 use Rattle.laws.proofs.Targets.{target-is}
-use Rattle.laws.proofs.Draws.{none-given, length-drawn}
+use Rattle.laws.proofs.Draws.{length-drawn}
 use Rattle.laws.proofs.Splits.{height-fits, share-all, share-tower, new-span-pages}
 use Rattle.laws.proofs.Rewritten.{lifted, towers-after, kept-after}
-use Rattle.laws.proofs.SpanLinks.{linked, linkBetween, firstPage, lastPage, newSpan, spansTo, spansPast, spans-here, spans-after, spans-out, written-whole}
+use Rattle.laws.proofs.SpanLinks.{linkBetween, firstPage, newSpan, spansTo, spansPast, spans-after, written-whole}
 use Rattle.laws.proofs.TowerLinks.{pagesIn}
 use Rattle.laws.proofs.Relinks.{towers-cut, links-pages}
-use Rattle.laws.proofs.TableTowers.{newLinked, tower-written}
+use Rattle.laws.proofs.TableTowers.{newLinked, tower-written, unlinked-count}
 use Rattle.laws.proofs.TablePut.{tableWith, putInto, put-few}
-use Rattle.laws.proofs.TableRemove.{leftBy, left-fits, columns-without}
+use Rattle.laws.proofs.TableRemove.{leftBy, left-fits}
 use Rattle.laws.proofs.TableCreate.{meta-wanted}
 use Rattle.laws.proofs.Ledgers.{metaPages, created, create-drawn}
 use Rattle.laws.proofs.DrawnRewrites.{drawnAt}
@@ -41,7 +38,9 @@ use Rattle.laws.proofs.Creates.{three}
 use Rattle.laws.proofs.Preserves.{made-ok}
 use Rattle.laws.proofs.Pagewise.{allPages}
 use Rattle.laws.proofs.Rewrites.{new-towers}
-use Rattle.laws.proofs.Touches.{Field, Numbered, BlockHas, GivenHas, draw-has, SpanWhole, TowerWhole, linked-spans, linked-towers, LinksHave, rewriting-has, unlinking-has, table-has}
+use Rattle.laws.specs.FreeList.{freePages}
+use Rattle.laws.proofs.Owners.{tablePages, firstPages, contPages, count-table, count-span, drawn-count, firsts-without}
+use Rattle.laws.proofs.Touches.{Field, Numbered, BlockHas, GivenHas, draw-has, SpanWhole, TowerWhole, linked-towers, LinksHave, rewriting-has, unlinking-has, table-has}
 
 -- a write on one of these pages, from offset lo on and below hi
 pub record Part (ns : List ℕ) (lo hi : ℕ) (w : Write) : Type 0 where
@@ -208,27 +207,10 @@ module _ (t : Table) (blocks hand : List ℕ) where
     rewriting-named most many low =
         rewriting-has (Named t blocks hand) (tableAfter t i p s) links-after t i (length (newColumns t p s)) (p .height) most spans-whole (towers-whole many low)
 
-  -- ---- A span unlinked
+  -- ---- A span unlinked: t is the table after it
 
-  unlinking-named : (k : ℕ) → suc k < length (columns t) → (gone : List Tower) → Every (λ w. w .height ≤ 252) gone → Every (Named t blocks hand) (unlinking (without t (suc k)) (suc k) gone)
-  unlinking-named k inside gone low =
-      unlinking-has (Named t blocks hand) (without t (suc k))
-      (record {
-        spans =
-            subst (Every Linkable) (sym (spans-out t k inside))
-            (every-join Linkable (spansTo t k) (spanAt t k ∷ spansPast t (suc k)) (every-take Linkable k (spansOf (columns t)) link-named) (
-              every-right Linkable (spansTo t k) (spanAt t k ∷ spansPast t k) (subst (Every Linkable) (spans-here t k (omega arith)) link-named) .0,
-              every-drop Linkable (suc (suc k)) (spansOf (columns t)) link-named,
-            ));
-        towers =
-            subst (Every Enterable) (sym (ap towersOf (columns-without t k) ∙ towers-append (take (suc k) (columns t)) (drop (suc (suc k)) (columns t))))
-            (every-join Enterable (towersOf (take (suc k) (columns t))) (towersOf (drop (suc (suc k)) (columns t)))
-            (every-left Enterable (towersOf (take (suc k) (columns t))) (towersOf (drop (suc k) (columns t))) (subst (Every Enterable) (towers-cut (suc k) (columns t)) enter-named))
-            (every-right Enterable (towersOf (take (suc (suc k)) (columns t))) (towersOf (drop (suc (suc k)) (columns t))) (subst (Every Enterable) (towers-cut (suc (suc k)) (columns t)) enter-named)));
-        height = height-named;
-        counts = counts-named;
-      })
-      (suc k) gone low
+  unlinking-named : (i : ℕ) (gone : List Tower) → Every (λ w. w .height ≤ 252) gone → Every (Named t blocks hand) (unlinking t i gone)
+  unlinking-named i gone low = unlinking-has (Named t blocks hand) t (record { spans = link-named; towers = enter-named; height = height-named; counts = counts-named }) i gone low
 
 -- ---- What is in hand
 
@@ -240,15 +222,29 @@ handOf L t i p = spanAt t i .page ∷ (drawnBy L p .pages ++ (drop (p .wanted) (
 abbrev pub blockPages : Layout → List ℕ
 blockPages L = map (λ b. b .page) (L .free)
 
-module _ (q : ℕ) (drawn given : List ℕ) where
-  abbrev pages : List ℕ
-  pages = q ∷ (drawn ++ given)
+-- the pages given back
+abbrev pub givenBy : Plan → List ℕ
+givenBy p = drop (p .wanted) (p .old) ++ p .gone
 
-  held-drawn : Every (λ n. 1 ≤ count n pages) drawn
-  held-drawn = every-counted (λ n. 1 ≤ count n pages) drawn (λ n c. omega (arith, count-more n q (drawn ++ given), count-append n drawn given))
+-- a list's pages are in it
+own-pages : (ns : List ℕ) → Every (λ n. 1 ≤ count n ns) ns
+own-pages ns = every-counted (λ n. 1 ≤ count n ns) ns (λ n c. c)
 
-  held-given : Every (λ n. 1 ≤ count n pages) given
-  held-given = every-counted (λ n. 1 ≤ count n pages) given (λ n c. omega (arith, count-more n q (drawn ++ given), count-append n drawn given))
+-- What a plan on table t at place i writes: drawing writes blocks and the pages given back; what is made of the pages drawn is
+-- written on parts of a table whose spans and towers are t's, and on pages in hand
+pub record PlanNamed (L : Layout) (t : Table) (i : ℕ) (p : Plan) : Type 0 where
+  pub drawing : Every (Named t (blockPages L) (givenBy p)) (drawnBy L p .writes)
+  pub made : Table
+  pub hand : List ℕ
+  pub making : Every (Named made [] hand) (p .make (drawnBy L p .pages) .writes)
+  pub root : made .root ≡ t .root
+  pub head : made .head .page ≡ t .head .page
+  pub firsts : (n : ℕ) → count n (firstPages (spansOf (columns made))) ≤ count n (firstPages (spansOf (columns t)))
+  pub towers : (n : ℕ) → count n (pagesIn (towersOf (columns made))) ≤ count n (pagesIn (towersOf (columns t)))
+  pub hands : (n : ℕ) → count n hand ≤ count n (spanAt t i .page ∷ drawnBy L p .pages)
+  -- not on pages given back
+  pub apart : (n : ℕ) → count n (tablePages t) + count n (freePages (L .free)) ≤ 1 → 1 ≤ count n (givenBy p)
+      → count n (firstPages (spansOf (columns made))) + (count n (pagesIn (towersOf (columns made))) + count n hand) ≡ 0
 
 -- a table's towers are at most 252 high
 low-towers : (r : KeyRule) (t : Table) → TableOk r t → Every (λ w. w .height ≤ 252) (towersOf (columns t))
@@ -258,19 +254,16 @@ low-towers r t ok =
 -- pages drawn for the span at place i, and the span rewritten on them
 module _ (r : KeyRule) (t : Table) (ok : TableOk r t) (i : ℕ) (inside : i < length (columns t)) (bs : List Block) (wanted : ℕ) (room : wanted ≤ length (spanAt t i .conts) + freeCount bs) where
   abbrev hand : List ℕ
-  hand = spanAt t i .page ∷ (drawnAt t i bs wanted .pages ++ (drop wanted (spanAt t i .conts) ++ []))
-
-  abbrev blocks : List ℕ
-  blocks = map (λ b. b .page) bs
+  hand = spanAt t i .page ∷ drawnAt t i bs wanted .pages
 
   -- the pages drawn are in hand
   drawn-held : Every (λ n. 1 ≤ count n hand) (drawnAt t i bs wanted .pages)
-  drawn-held = held-drawn (spanAt t i .page) (drawnAt t i bs wanted .pages) (drop wanted (spanAt t i .conts) ++ [])
+  drawn-held = own-pages hand .1
 
-  rewrite-named : (es : List Entry) → length es ≤ t .spanSize + 1 → wantedBy (parts t es) ≤ wanted → TableOk r (tableWith t i es (drawnAt t i bs wanted .pages))
-      → Every (Named t blocks hand) (drawnAt t i bs wanted .writes ++ rewrite t i es (drawnAt t i bs wanted .pages) .writes)
+  making-named : (es : List Entry) → length es ≤ t .spanSize + 1 → wantedBy (parts t es) ≤ wanted → TableOk r (tableWith t i es (drawnAt t i bs wanted .pages))
+      → Every (Named t [] hand) (rewrite t i es (drawnAt t i bs wanted .pages) .writes)
   unfolding rewrite
-  rewrite-named es most enough okAfter =
+  making-named es most enough okAfter =
       let P : ℕ → Type 0 = λ n. 1 ≤ count n hand in
       let ps : List ℕ = drawnAt t i bs wanted .pages in
       let p : Parts = parts t es in
@@ -279,13 +272,25 @@ module _ (r : KeyRule) (t : Table) (ok : TableOk r t) (i : ℕ) (inside : i < le
       let h : Every P (s .conts ++ (s .span ++ s .tower)) = subst (Every P) (sym (share-all p ps)) (every-take P (wantedBy p) ps drawn-held) in
       let h2 : Every P (s .span ++ s .tower) = every-right P (s .conts) (s .span ++ s .tower) h in
       let new : pagesIn (towersOf (newColumns t p s)) ≡ s .tower = new-towers r t ok es most ps e in
-      every-join (Named t blocks hand) (drawnAt t i bs wanted .writes) _
-      (drawing-named t blocks hand (spanAt t i .conts) wanted [] bs refl (held-given (spanAt t i .page) ps (drop wanted (spanAt t i .conts) ++ [])))
-      (rewriting-named t blocks hand i inside p s (omega (arith, count-here (spanAt t i .page) (ps ++ (drop wanted (spanAt t i .conts) ++ []))))
+      rewriting-named t [] hand i inside p s (own-pages hand .0)
       (every-left P (s .conts) (s .span ++ s .tower) h) (every-left P (s .span) (s .tower) h2) (every-right P (s .span) (s .tower) h2) new
       (omega (arith, height-fits r t ok es, ok .heights .0 .0 .1))
       (sym (length-map (towersOf (newColumns t p s)) (λ (w : Tower). w .page)) ∙ ap length new ∙ share-tower p ps e)
-      (low-towers r (tableAfter t i p s) okAfter))
+      (low-towers r (tableAfter t i p s) okAfter)
+
+  -- old continuation pages that are left over are in none of a table's other parts, and not drawn
+  left-apart : (n : ℕ) → count n (tablePages t) + count n (freePages bs) ≤ 1 → 1 ≤ count n (drop wanted (spanAt t i .conts) ++ [])
+      → count n (firstPages (spansOf (columns t))) + (count n (pagesIn (towersOf (columns t))) + count n hand) ≡ 0
+  left-apart n once is =
+      let c : (count n (spanAt t i .page ∷ []) ≤ count n (firstPages (spansOf (columns t)))) × (count n (spanAt t i .conts) ≤ count n (contPages (spansOf (columns t)))) = count-span n t i inside in
+      omega (
+        arith,
+        count-append n (drop wanted (spanAt t i .conts)) [],
+        count-table n t,
+        c .0,
+        c .1,
+        drawn-count n (spanAt t i .conts) wanted [] bs,
+      )
 
 -- ---- Put and remove
 
@@ -295,46 +300,72 @@ module _ (L : Layout) (name : List ℕ) (t : Table) (ok : TableOk (keyRule name)
   GoodAfter p = Every (λ n. TableOk (keyRule (n .key)) (n .value)) (layoutAfter L p .tables)
 
   rewritten-named : (i : ℕ) (es : List Entry) → i < length (columns t) → length es ≤ t .spanSize + 1 → lacks L (rewritePlan L name t i es) ≡ false → GoodAfter (rewritePlan L name t i es)
-      → Every (Named t (blockPages L) (handOf L t i (rewritePlan L name t i es))) (writesOf L (rewritePlan L name t i es))
-  unfolding writesOf layoutAfter rewritePlan rewrite lacks
+      → PlanNamed L t i (rewritePlan L name t i es)
+  unfolding layoutAfter rewritePlan rewrite lacks
   rewritten-named i es inside most h good =
       let w : ℕ = wantedBy (parts t es) in
-      rewrite-named (keyRule name) t ok i inside (L .free) w (ltb-false (length (spanAt t i .conts) + freeCount (L .free)) w h) es most (omega arith)
-      (made-ok (L .tables) name (tableWith t i es (drawnAt t i (L .free) w .pages)) good)
+      let room : w ≤ length (spanAt t i .conts) + freeCount (L .free) = ltb-false (length (spanAt t i .conts) + freeCount (L .free)) w h in
+      record {
+        drawing = drawing-named t (blockPages L) (drop w (spanAt t i .conts) ++ []) (spanAt t i .conts) w [] (L .free) refl (own-pages (drop w (spanAt t i .conts) ++ []));
+        made = t;
+        hand = spanAt t i .page ∷ drawnAt t i (L .free) w .pages;
+        making = making-named (keyRule name) t ok i inside (L .free) w room es most (omega arith) (made-ok (L .tables) name (tableWith t i es (drawnAt t i (L .free) w .pages)) good);
+        root = refl;
+        head = refl;
+        firsts = λ n. omega arith;
+        towers = λ n. omega arith;
+        hands = λ n. omega arith;
+        apart = left-apart (keyRule name) t ok i inside (L .free) w room;
+      }
 
-  unlinked-named : (k : ℕ) → suc k < length (columns t) → Every (Named t (blockPages L) (handOf L t (suc k) (unlinkPlan L name t (suc k)))) (writesOf L (unlinkPlan L name t (suc k)))
-  unfolding writesOf unlinkPlan
+  unlinked-named : (k : ℕ) → suc k < length (columns t) → PlanNamed L t (suc k) (unlinkPlan L name t (suc k))
+  unfolding unlinkPlan
   unlinked-named k inside =
       let q : ℕ = spanAt t (suc k) .page in
       let old : List ℕ = spanAt t (suc k) .conts in
-      let gone : List ℕ = q ∷ map (λ v. v .page) (towersAt t (suc k)) in
-      let hand : List ℕ = q ∷ (draw old 0 gone (L .free) .pages ++ (drop 0 old ++ gone)) in
-      let blocks : List ℕ = blockPages L in
+      let gone : List ℕ = q ∷ pagesIn (towersAt t (suc k)) in
+      let u : Table = without t (suc k) in
       let low : Tower → Type 0 = λ w. w .height ≤ 252 in
-      every-join (Named t blocks hand) (draw old 0 gone (L .free) .writes) (unlinking (without t (suc k)) (suc k) (towersAt t (suc k)))
-      (drawing-named t blocks hand old 0 gone (L .free) refl (held-given q (draw old 0 gone (L .free) .pages) (drop 0 old ++ gone)))
-      (unlinking-named t blocks hand k inside (towersAt t (suc k))
-      (every-left low (towersAt t (suc k)) (towersOf (drop 1 (drop (suc k) (columns t))))
-      (subst (Every low) (towers-cut 1 (drop (suc k) (columns t)))
-      (every-right low (towersOf (take (suc k) (columns t))) (towersOf (drop (suc k) (columns t))) (subst (Every low) (towers-cut (suc k) (columns t)) (low-towers (keyRule name) t ok))))))
+      record {
+        drawing = drawing-named t (blockPages L) (drop 0 old ++ gone) old 0 gone (L .free) refl (own-pages (drop 0 old ++ gone));
+        made = u;
+        hand = [];
+        making =
+            unlinking-named u [] [] (suc k) (towersAt t (suc k))
+            (every-left low (towersAt t (suc k)) (towersOf (drop 1 (drop (suc k) (columns t))))
+            (subst (Every low) (towers-cut 1 (drop (suc k) (columns t)))
+            (every-right low (towersOf (take (suc k) (columns t))) (towersOf (drop (suc k) (columns t))) (subst (Every low) (towers-cut (suc k) (columns t)) (low-towers (keyRule name) t ok)))));
+        root = refl;
+        head = refl;
+        firsts = λ n. omega (arith, firsts-without n t k inside);
+        towers = λ n. omega (arith, unlinked-count t k inside n);
+        hands = λ n. omega arith;
+        apart = λ n once is.
+            omega (
+              arith,
+              count-append n old gone,
+              count-table n t,
+              count-span n t (suc k) inside .1,
+              firsts-without n t k inside,
+              unlinked-count t k inside n,
+            );
+      }
 
   left-named : (i : ℕ) (es : List Entry) → i < length (columns t) → length es ≤ t .spanSize → lacks L (leavePlan L name t i es) ≡ false → GoodAfter (leavePlan L name t i es)
-      → Every (Named t (blockPages L) (handOf L t i (leavePlan L name t i es))) (writesOf L (leavePlan L name t i es))
+      → PlanNamed L t i (leavePlan L name t i es)
   left-named zero es inside most h good = rewritten-named zero es inside (omega arith) h good
   left-named (suc k) [] inside most h good = unlinked-named k inside
   left-named (suc k) (e ∷ es) inside most h good = rewritten-named (suc k) (e ∷ es) inside (omega arith) h good
 
   -- what put writes
-  pub put-named : (k v : List ℕ) → lacks L (putPlan L name t k v) ≡ false → GoodAfter (putPlan L name t k v)
-      → Every (Named t (blockPages L) (handOf L t (target (keyRule name) k t) (putPlan L name t k v))) (writesOf L (putPlan L name t k v))
+  pub put-named : (k v : List ℕ) → lacks L (putPlan L name t k v) ≡ false → GoodAfter (putPlan L name t k v) → PlanNamed L t (target (keyRule name) k t) (putPlan L name t k v)
   unfolding putPlan
   put-named k v h good =
       rewritten-named (target (keyRule name) k t) (putInto (keyRule name) t k v) (target-is (keyRule name) (keys-ordered name) k t ok .place)
       (put-few (keyRule name) (keys-ordered name) t ok k v) h good
 
   -- and remove
-  pub remove-named : (k : List ℕ) → lacks L (removePlan L name t k) ≡ false → GoodAfter (removePlan L name t k)
-      → Every (Named t (blockPages L) (handOf L t (target (keyRule name) k t) (removePlan L name t k))) (writesOf L (removePlan L name t k))
+  pub remove-named : (k : List ℕ) → lacks L (removePlan L name t k) ≡ false → GoodAfter (removePlan L name t k) → PlanNamed L t (target (keyRule name) k t) (removePlan L name t k)
   unfolding removePlan
   remove-named k h good =
       left-named (target (keyRule name) k t) (leftBy (keyRule name) t k) (target-is (keyRule name) (keys-ordered name) k t ok .place)
@@ -344,8 +375,8 @@ module _ (L : Layout) (name : List ℕ) (t : Table) (ok : TableOk (keyRule name)
 
 -- what create writes: on the metaindex as put does, and the new table on pages in hand
 pub create-named : (L : Layout) (name : List ℕ) → TableOk nameRule (L .meta) → lacks L (createPlan L name) ≡ false → TableOk nameRule (layoutAfter L (createPlan L name) .meta)
-    → Every (Named (L .meta) (blockPages L) (handOf L (L .meta) (target nameRule name (L .meta)) (createPlan L name))) (writesOf L (createPlan L name))
-unfolding writesOf layoutAfter createPlan rewrite lacks
+    → PlanNamed L (L .meta) (target nameRule name (L .meta)) (createPlan L name)
+unfolding layoutAfter createPlan rewrite lacks
 create-named L name ok h okAfter =
     let meta : Table = L .meta in
     let i : ℕ = target nameRule name meta in
@@ -354,16 +385,25 @@ create-named L name ok h okAfter =
     let d : Drawn = drawnAt meta i (L .free) (w + 3) in
     let room : w + 3 ≤ length (spanAt meta i .conts) + freeCount (L .free) = ltb-false (length (spanAt meta i .conts) + freeCount (L .free)) (w + 3) h in
     let inside : i < length (columns meta) = target-is nameRule names-ordered name meta ok .place in
-    let hand : List ℕ = spanAt meta i .page ∷ (d .pages ++ (drop (w + 3) (spanAt meta i .conts) ++ [])) in
-    let blocks : List ℕ = blockPages L in
+    let hand : List ℕ = spanAt meta i .page ∷ d .pages in
     let P : ℕ → Type 0 = λ n. 1 ≤ count n hand in
-    let held : Every P (d .pages) = drawn-held nameRule meta ok i inside (L .free) (w + 3) room in
     let new : Every P (getD (d .pages) w 0 ∷ getD (d .pages) (w + 1) 0 ∷ getD (d .pages) (w + 2) 0 ∷ [])
-    = subst (Every P) (three (d .pages) w (create-drawn L name h)) (every-drop P w (d .pages) held) in
-    subst (Every (Named meta blocks hand)) (append-assoc (d .writes) (rewrite meta i es (d .pages) .writes) (wholeTable (created L name)))
-    (every-join (Named meta blocks hand) (d .writes ++ rewrite meta i es (d .pages) .writes) (wholeTable (created L name))
-    (rewrite-named nameRule meta ok i inside (L .free) (w + 3) room es (put-few nameRule names-ordered meta ok name (word32 (created L name .root)))
-    (omega (arith, meta-wanted L name (created L name .root))) okAfter)
-    (table-has (Named meta blocks hand) (created L name) (any meta blocks hand (created L name .root) 0 1024 (omega arith) (new .0))
-    (span-any meta blocks hand (created L name .first) (new .1 .0, tt), tt)
-    ((omega arith, any meta blocks hand (created L name .head .page) 0 1024 (omega arith) (new .1 .1 .0)), tt)))
+    = subst (Every P) (three (d .pages) w (create-drawn L name h)) (every-drop P w (d .pages) (own-pages hand .1)) in
+    record {
+      drawing = drawing-named meta (blockPages L) (drop (w + 3) (spanAt meta i .conts) ++ []) (spanAt meta i .conts) (w + 3) [] (L .free) refl (own-pages (drop (w + 3) (spanAt meta i .conts) ++ []));
+      made = meta;
+      hand = hand;
+      making =
+          every-join (Named meta [] hand) (rewrite meta i es (d .pages) .writes) (wholeTable (created L name))
+          (making-named nameRule meta ok i inside (L .free) (w + 3) room es (put-few nameRule names-ordered meta ok name (word32 (created L name .root)))
+          (omega (arith, meta-wanted L name (created L name .root))) okAfter)
+          (table-has (Named meta [] hand) (created L name) (any meta [] hand (created L name .root) 0 1024 (omega arith) (new .0))
+          (span-any meta [] hand (created L name .first) (new .1 .0, tt), tt)
+          ((omega arith, any meta [] hand (created L name .head .page) 0 1024 (omega arith) (new .1 .1 .0)), tt));
+      root = refl;
+      head = refl;
+      firsts = λ n. omega arith;
+      towers = λ n. omega arith;
+      hands = λ n. omega arith;
+      apart = left-apart nameRule meta ok i inside (L .free) (w + 3) room;
+    }

@@ -13,7 +13,7 @@ use Rattle.blockfile.specs.Order.{same, find}
 use Rattle.blockfile.specs.WellFormed.{span, tower, freePage, count, spansIn, towersIn, tablePieces, freePieces, pieces}
 use Rattle.blockfile.specs.Free.{Drawn, takeFrom, takePage, takeMany, giveMany, draw}
 use Rattle.blockfile.specs.Put.{spanAt}
-use Rattle.blockfile.specs.Remove.{towersAt}
+use Rattle.blockfile.specs.Remove.{without, towersAt}
 use Rattle.blockfile.proofs.Bools.{holds, same-eq}
 use Rattle.blockfile.proofs.Count.{count-append}
 use Rattle.blockfile.proofs.Owned.{ownedBy, owned-append, count-owned}
@@ -23,7 +23,7 @@ use Rattle.laws.proofs.Places.{gather-append}
 use Rattle.laws.proofs.State.{spanPages}
 use Rattle.laws.proofs.Opens.{owned-spans, owned-towers}
 use Rattle.laws.proofs.Draws.{none-given}
-use Rattle.laws.proofs.SpanLinks.{spansTo, spansPast, link-between, spans-here}
+use Rattle.laws.proofs.SpanLinks.{spansTo, spansPast, link-between, spans-here, past-next, spans-out}
 use Rattle.laws.proofs.TowerLinks.{pagesIn}
 use Rattle.laws.proofs.Relinks.{towers-cut}
 use Rattle.laws.proofs.Pagewise.{allPages, between-pages, tower-pages}
@@ -125,6 +125,20 @@ module _ (n : ℕ) where
       count-append n (spanAt t i .conts) (contPages (spansPast t i)),
     ),
   )
+
+  -- without a span, its page is missing
+  pub firsts-without : (t : Table) (k : ℕ) → suc k < length (columns t)
+      → count n (firstPages (spansOf (columns t))) ≡ count n (firstPages (spansOf (columns (without t (suc k))))) + count n (spanAt t (suc k) .page ∷ [])
+  firsts-without t k l =
+      omega (
+        arith,
+        ap (λ (ss : List Span). count n (firstPages ss)) (spans-here t k (omega arith) ∙ ap (λ (ss : List Span). spansTo t k ++ spanAt t k ∷ ss) (past-next t k l)),
+        ap (count n) (map-append (λ (s : Span). s .page) (spansTo t k) (spanAt t k ∷ (spanAt t (suc k) ∷ spansPast t (suc k)))),
+        count-append n (firstPages (spansTo t k)) (spanAt t k .page ∷ (spanAt t (suc k) .page ∷ firstPages (spansPast t (suc k)))),
+        ap (λ (ss : List Span). count n (firstPages ss)) (spans-out t k l),
+        ap (count n) (map-append (λ (s : Span). s .page) (spansTo t k) (spanAt t k ∷ spansPast t (suc k))),
+        count-append n (firstPages (spansTo t k)) (spanAt t k .page ∷ firstPages (spansPast t (suc k))),
+      )
 
   -- so are the towers at a place
   pub count-towers : (t : Table) (i : ℕ) → count n (pagesIn (towersAt t i)) ≤ count n (pagesIn (towersOf (columns t)))

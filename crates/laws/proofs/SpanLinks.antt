@@ -146,7 +146,7 @@ module _ (t : Table) where
   unfolding spanAt
   spans-here i l = split-at (spansOf (columns t)) i (t .first) (simp length-map l)
 
-  past-next : (i : ℕ) → suc i < length (columns t) → spansPast t i ≡ spanAt t (suc i) ∷ spansPast t (suc i)
+  pub past-next : (i : ℕ) → suc i < length (columns t) → spansPast t i ≡ spanAt t (suc i) ∷ spansPast t (suc i)
   unfolding spanAt
   past-next i l = drop-cons (spansOf (columns t)) (suc i) (t .first) (simp length-map l)
 

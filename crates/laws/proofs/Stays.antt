@@ -1,42 +1,44 @@
 -- Which bytes of the image a call leaves as they were.
 use Prim.Native.Nat.{ℕ, zero, suc, _+_, _<_, _≤_}
 use native.Mathlib.Omega.{arith}
+use native.Mathlib.Decide.{ℕ-discrete}
 use mathlib.Core.Path.{_≡_, refl, ap, sym, _∙_, subst}
 use mathlib.Core.Logic.{_⊎_, inl, inr}
 use mathlib.Core.Bool.{Bool, true, false, cond}
 use mathlib.Core.Option.{Option, none, some}
-use mathlib.Core.List.{List, [], _∷_, _++_}
+use mathlib.Core.List.{List, [], _∷_, _++_, map}
 use lib.ListN.{length, getD, drop}
 use Rattle.blockfile.specs.declared.Refusal.{Refusal}
 use Rattle.blockfile.specs.declared.Refusal.the-variants.{NoRoom}
 use Rattle.blockfile.specs.Bytes.{pg, Write, apply, Every, gather}
-use Rattle.blockfile.specs.Layout.{Entry, Table, Block, Layout, columns, spansOf, towersOf, freeCount}
+use Rattle.blockfile.specs.Layout.{Entry, Table, Layout, columns, spansOf, towersOf, freeCount}
 use Rattle.blockfile.specs.Order.{nameRule, keyRule, same, find}
 use Rattle.blockfile.specs.WellFormed.{count, TableOk, WellFormed}
 use Rattle.blockfile.specs.Plan.{Plan, drawnBy, lacks, layoutAfter, writesOf}
 use Rattle.blockfile.specs.Put.{target, spanAt, rewritePlan, putPlan}
-use Rattle.blockfile.specs.Remove.{towersAt, unlinkPlan, leavePlan, removePlan}
+use Rattle.blockfile.specs.Remove.{unlinkPlan, leavePlan, removePlan}
 use Rattle.blockfile.specs.Create.{createPlan}
 use Rattle.blockfile.specs.Refusals.{Op, check, get, put, remove, next, create, ledgerOf, refused, handed, doneReply}
 use Rattle.blockfile.specs.Answers.{refuse, planOf, lacking, planned, outcomeIf, outcomeOn}
-use Rattle.blockfile.proofs.Every.{every-so}
-use Rattle.blockfile.proofs.Count.{count-here, count-append}
+use Rattle.blockfile.proofs.Every.{every-so, every-join}
+use Rattle.blockfile.proofs.Count.{count-here, count-append, count-more}
 use Rattle.blockfile.proofs.Owned.{clean}
 use Rattle.laws.specs.FreeList.{freePages}
 use Rattle.laws.proofs.Lists.{Apart, Agree}
 use Rattle.laws.proofs.Orders.{names-ordered, keys-ordered}
 use Rattle.laws.proofs.Writes.{Fits, Spares, Misses, pg-apply-other, agree-apply}
+use Rattle.laws.proofs.Given.{Ends, Bounded, bounded-none, draw-ends}
 use Rattle.laws.proofs.Targets.{target-is}
 use Rattle.laws.proofs.TowerLinks.{pagesIn}
 use Rattle.laws.proofs.TablePut.{putInto}
 use Rattle.laws.proofs.TableRemove.{leftBy}
 use Rattle.laws.proofs.TableCreate.{table-found}
-use Rattle.laws.proofs.Allowed.{OnTable, put-allowed, remove-allowed, create-allowed}
+use Rattle.laws.proofs.Allowed.{OnTable, put-allowed, remove-allowed}
 use Rattle.laws.proofs.Ledgers.{on-table}
 use Rattle.laws.proofs.Spots.{inOption}
 use Rattle.laws.proofs.Preserves.{well-after}
 use Rattle.laws.proofs.Owners.{tablePages, namedPages, pagesUnder, firstPages, contPages, count-pages, under-named, names-apart, count-table, count-span, count-towers, take-drop-count, blocks-count, drawn-count}
-use Rattle.laws.proofs.Names.{Part, Named, first-free, counts, height, links, entries, listing, in-hand, handOf, blockPages, put-named, remove-named, create-named}
+use Rattle.laws.proofs.Names.{Part, Named, first-free, counts, height, links, entries, listing, in-hand, handOf, givenBy, blockPages, PlanNamed, put-named, remove-named, create-named}
 
 -- ---- From writes to bytes
 
@@ -79,45 +81,83 @@ named-fits t blocks hand w (entries p) = omega (arith, p .high)
 named-fits t blocks hand w (listing p) = omega (arith, p .high)
 named-fits t blocks hand w (in-hand p) = omega (arith, p .high)
 
--- the page of such a write
-named-page : (t : Table) (blocks hand : List ℕ) (w : Write) → Named t blocks hand w → 1 ≤ count (w .page) (1 ∷ []) + (count (w .page) (tablePages t) + (count (w .page) blocks + count (w .page) hand))
+-- how often a page is in the parts named
+abbrev inParts : Table → (blocks hand : List ℕ) → ℕ → ℕ
+inParts t blocks hand n =
+    count n (1 ∷ [])
+    + (count n (t .root ∷ []) + (count n (firstPages (spansOf (columns t))) + (count n (pagesIn (towersOf (columns t))) + (count n blocks + count n hand))))
+
+named-page : (t : Table) (blocks hand : List ℕ) (w : Write) → Named t blocks hand w → 1 ≤ inParts t blocks hand (w .page)
 named-page t blocks hand w (first-free p) = omega (arith, p .page)
-named-page t blocks hand w (counts p) = omega (arith, p .page, count-table (w .page) t)
-named-page t blocks hand w (height p) = omega (arith, p .page, count-table (w .page) t)
-named-page t blocks hand w (links p) = omega (arith, p .page, count-table (w .page) t)
-named-page t blocks hand w (entries p) = omega (arith, p .page, count-table (w .page) t)
+named-page t blocks hand w (counts p) = omega (arith, p .page)
+named-page t blocks hand w (height p) = omega (arith, p .page)
+named-page t blocks hand w (links p) = omega (arith, p .page)
+named-page t blocks hand w (entries p) = omega (arith, p .page)
 named-page t blocks hand w (listing p) = omega (arith, p .page)
 named-page t blocks hand w (in-hand p) = omega (arith, p .page)
+
+-- a page that is in no part is not written
+pages-apart : (t : Table) (blocks hand : List ℕ) (ws : List Write) (n : ℕ) → Every (Named t blocks hand) ws → inParts t blocks hand n ≡ 0 → Every (Spares n) ws
+pages-apart t blocks hand ws n h z = every-so (Named t blocks hand) (λ w k e. off w (named-page t blocks hand w k) e) ws h
+  where
+    off : (w : Write) → 1 ≤ inParts t blocks hand (w .page) → n ≡ w .page → ⊥
+    off w c e = let d : inParts t blocks hand n ≡ inParts t blocks hand (w .page) = ap (inParts t blocks hand) e in omega arith
 
 no-page : (img : List ℕ) → pg img 0 ≡ []
 unfolding pg
 no-page img = refl
 
+-- bytes that no write of the list meets, of any page; there is no page 0
+agree-missed : (n a v : ℕ) (ws : List Write) (img : List ℕ) → Every Fits ws → Every (Misses n a v) ws → Agree v (pg (apply ws img) n) a (pg img n) a
+agree-missed zero a v ws img f m = λ k q. ap (λ (b : List ℕ). getD b (a + k) 0) (no-page (apply ws img) ∙ sym (no-page img))
+agree-missed (suc n) a v ws img f m = agree-apply (suc n) a v ws img (omega arith) f m
+
 module _ (t : Table) (blocks hand : List ℕ) (ws : List Write) (img : List ℕ) (named : Every (Named t blocks hand) ws) (n : ℕ) where
   -- bytes that no part names are as they were
   pub bytes-stay : (a v : ℕ) → Spared t blocks hand n a v → Agree v (pg (apply ws img) n) a (pg img n) a
   bytes-stay a v s =
-      agree-pages n
-      (λ pos. agree-apply n a v ws img pos (every-so (Named t blocks hand) (named-fits t blocks hand) ws named) (every-so (Named t blocks hand) (named-missed n a v t blocks hand s) ws named))
-    where
-      -- there is no page 0
-      agree-pages : (m : ℕ) → (1 ≤ m → Agree v (pg (apply ws img) m) a (pg img m) a) → Agree v (pg (apply ws img) m) a (pg img m) a
-      agree-pages zero h = λ k q. ap (λ (b : List ℕ). getD b (a + k) 0) (no-page (apply ws img) ∙ sym (no-page img))
-      agree-pages (suc m) h = h (omega arith)
+      agree-missed n a v ws img (every-so (Named t blocks hand) (named-fits t blocks hand) ws named) (every-so (Named t blocks hand) (named-missed n a v t blocks hand s) ws named)
 
-  -- and so is a whole page that is not the superblock, nor the table's, nor a block, nor in hand
-  pub named-elsewhere : count n (1 ∷ []) + (count n (tablePages t) + (count n blocks + count n hand)) ≡ 0 → pg (apply ws img) n ≡ pg img n
-  named-elsewhere z =
-      pg-apply-other n ws img (every-so (Named t blocks hand) (named-fits t blocks hand) ws named)
-      (every-so (Named t blocks hand) (λ w h e. off w (named-page t blocks hand w h) e) ws named)
-    where
-      off : (w : Write) → 1 ≤ count (w .page) (1 ∷ []) + (count (w .page) (tablePages t) + (count (w .page) blocks + count (w .page) hand)) → n ≡ w .page → ⊥
-      off w c e =
-          let d : count n (1 ∷ []) + (count n (tablePages t) + (count n blocks + count n hand)) ≡ count (w .page) (1 ∷ []) + (count (w .page) (tablePages t) + (count (w .page) blocks + count (w .page) hand))
-          = ap (λ (m : ℕ). count m (1 ∷ []) + (count m (tablePages t) + (count m blocks + count m hand))) e in
-          omega arith
+  -- and so is a whole page that is in no part
+  pub named-elsewhere : inParts t blocks hand n ≡ 0 → pg (apply ws img) n ≡ pg img n
+  named-elsewhere z = pg-apply-other n ws img (every-so (Named t blocks hand) (named-fits t blocks hand) ws named) (pages-apart t blocks hand ws n named z)
 
 -- ---- What a done call changes
+
+part-more : (ns ms : List ℕ) (lo hi : ℕ) (w : Write) → (1 ≤ count (w .page) ns → 1 ≤ count (w .page) ms) → Part ns lo hi w → Part ms lo hi w
+part-more ns ms lo hi w f p = record { page = f (p .page); low = p .low; high = p .high }
+
+module _ (L : Layout) (t : Table) (i : ℕ) (p : Plan) (x : PlanNamed L t i p) where
+  abbrev hands : List ℕ
+  hands = handOf L t i p
+
+  given-more : (w : Write) → Named t (blockPages L) (givenBy p) w → Named t (blockPages L) hands w
+  given-more w (first-free q) = first-free q
+  given-more w (counts q) = counts q
+  given-more w (height q) = height q
+  given-more w (links q) = links q
+  given-more w (entries q) = entries q
+  given-more w (listing q) = listing q
+  given-more w (in-hand q) =
+      in-hand (part-more (givenBy p) hands 0 1024 w (λ c. omega (arith, count-append (w .page) (drawnBy L p .pages) (givenBy p), count-more (w .page) (spanAt t i .page) (drawnBy L p .pages ++ givenBy p))) q)
+
+  made-more : (w : Write) → Named (x .made) [] (x .hand) w → Named t (blockPages L) hands w
+  made-more w (first-free q) = first-free q
+  made-more w (counts q) = counts (subst (λ (r : ℕ). Part (r ∷ []) 16 28 w) (x .root) q)
+  made-more w (height q) = height (subst (λ (r : ℕ). Part (r ∷ []) 10 12 w) (x .head) q)
+  made-more w (links q) = links (part-more (firstPages (spansOf (columns (x .made)))) (firstPages (spansOf (columns t))) 8 16 w (λ c. omega (arith, x .firsts (w .page))) q)
+  made-more w (entries q) = entries (part-more (pagesIn (towersOf (columns (x .made)))) (pagesIn (towersOf (columns t))) 16 1024 w (λ c. omega (arith, x .towers (w .page))) q)
+  made-more w (listing q) = absurd (omega (arith, q .page))
+  made-more w (in-hand q) =
+      in-hand (part-more (x .hand) hands 0 1024 w (λ c. omega (arith, x .hands (w .page), count-append (w .page) (drawnBy L p .pages) (givenBy p))) q)
+
+  -- all that a plan writes
+  pub all-named : Every (Named t (blockPages L) (handOf L t i p)) (writesOf L p)
+  unfolding writesOf
+  all-named =
+      every-join (Named t (blockPages L) hands) (drawnBy L p .writes) (p .make (drawnBy L p .pages) .writes)
+      (every-so (Named t (blockPages L) (givenBy p)) given-more (drawnBy L p .writes) (x .drawing))
+      (every-so (Named (x .made) [] (x .hand)) made-more (p .make (drawnBy L p .pages) .writes) (x .making))
 
 -- the table that a call may change, if there is one
 abbrev pub changedBy : Layout → Op → List Table
@@ -139,7 +179,7 @@ pub record Change (L : Layout) (ts : List Table) (p : Plan) : Type 0 where
   pub gone : (n : ℕ) → count n (p .gone) ≤ count n (firstPages (spansOf (columns table))) + count n (pagesIn (towersOf (columns table)))
   -- the superblock, the table and the free list share no page
   pub once : (n : ℕ) → count n (1 ∷ []) + (count n (tablePages table) + count n (freePages (L .free))) ≤ 1
-  pub named : Every (Named table (blockPages L) (handOf L table place p)) (writesOf L p)
+  pub writes : PlanNamed L table place p
 
 module _ (img : List ℕ) (L : Layout) (w : WellFormed img L) where
   -- each page is owned at most once
@@ -158,12 +198,12 @@ module _ (img : List ℕ) (L : Layout) (w : WellFormed img L) where
         )
 
     abbrev Changed : (i : ℕ) → Plan → Type 0
-    Changed i p = Every (Named t (blockPages L) (handOf L t i p)) (writesOf L p) → Change L (inOption (find name (L .tables))) p
+    Changed i p = PlanNamed L t i p → Change L (inOption (find name (L .tables))) p
 
     rewrite-change : (i : ℕ) (es : List Entry) → i < length (columns t) → Changed i (rewritePlan L name t i es)
     unfolding rewritePlan
     rewrite-change i es inside h =
-        record { table = t; is = ap inOption found; place = i; inside = inside; old = refl; gone = λ n. omega arith; once = table-once; named = h }
+        record { table = t; is = ap inOption found; place = i; inside = inside; old = refl; gone = λ n. omega arith; once = table-once; writes = h }
 
     unlink-change : (k : ℕ) → suc k < length (columns t) → Changed (suc k) (unlinkPlan L name t (suc k))
     unfolding unlinkPlan
@@ -176,7 +216,7 @@ module _ (img : List ℕ) (L : Layout) (w : WellFormed img L) where
           old = refl;
           gone = λ n. omega (arith, count-span n t (suc k) inside .0, count-towers n t (suc k));
           once = table-once;
-          named = h;
+          writes = h;
         }
 
     leave-change : (i : ℕ) (es : List Entry) → i < length (columns t) → Changed i (leavePlan L name t i es)
@@ -210,7 +250,7 @@ module _ (img : List ℕ) (L : Layout) (w : WellFormed img L) where
         old = refl;
         gone = λ n. omega arith;
         once = λ n. omega (arith, owned-once n);
-        named = create-named L name (w .metaOk) h good;
+        writes = create-named L name (w .metaOk) h good;
       }
 
 change-as : (L : Layout) (ts : List Table) (o : Option Plan) (p q : Plan) → o ≡ some p → o ≡ some q → Change L ts q → Change L ts p
@@ -259,7 +299,7 @@ module _ (img : List ℕ) (L : Layout) (ts : List Table) (p : Plan) (c : Change 
     hand : count n (handOf L (c .table) (c .place) p)
         ≡ count n (spanAt (c .table) (c .place) .page ∷ []) + (count n (drawnBy L p .pages) + (count n (drop (p .wanted) (p .old)) + count n (p .gone)))
     drawn : count n (drawnBy L p .pages) + count n (drop (p .wanted) (p .old)) ≤ count n (p .old) + count n (freePages (L .free))
-    given : count n (drop (p .wanted) (p .old)) ≤ count n (p .old)
+    dropped : count n (drop (p .wanted) (p .old)) ≤ count n (p .old)
     blocks : count n (blockPages L) ≤ count n (freePages (L .free))
 
   counted : (n : ℕ) → Counts n
@@ -273,12 +313,12 @@ module _ (img : List ℕ) (L : Layout) (ts : List Table) (p : Plan) (c : Change 
         gone = c .gone n;
         hand = omega (arith, count-append n (drawnBy L p .pages) (drop (p .wanted) (p .old) ++ p .gone), count-append n (drop (p .wanted) (p .old)) (p .gone));
         drawn = drawn-count n (p .old) (p .wanted) (p .gone) (L .free);
-        given = omega (arith, take-drop-count n (p .wanted) (p .old));
+        dropped = omega (arith, take-drop-count n (p .wanted) (p .old));
         blocks = blocks-count n (L .free);
       }
 
   stays-by : (n a v : ℕ) → Spared (c .table) (blockPages L) (handOf L (c .table) (c .place) p) n a v → Agree v (pg after n) a (pg img n) a
-  stays-by n a v s = bytes-stay (c .table) (blockPages L) (handOf L (c .table) (c .place) p) (writesOf L p) img (c .named) n a v s
+  stays-by n a v s = bytes-stay (c .table) (blockPages L) (handOf L (c .table) (c .place) p) (writesOf L p) img (all-named L (c .table) (c .place) p (c .writes)) n a v s
 
   -- a free page that is not drawn is in no part but a block's
   free-spared : (n a v : ℕ) → count n (drawnBy L p .pages) ≡ 0 → 1 ≤ count n (freePages (L .free)) → (count n (blockPages L) ≡ 0) ⊎ Apart a v 12 1012
@@ -292,7 +332,7 @@ module _ (img : List ℕ) (L : Layout) (ts : List Table) (p : Plan) (c : Change 
         links = inl (omega (arith, k .once, k .parts));
         entries = inl (omega (arith, k .once, k .parts));
         listing = h;
-        in-hand = inl (omega (arith, k .once, k .parts, k .span, k .conts, k .gone, k .given, k .hand));
+        in-hand = inl (omega (arith, k .once, k .parts, k .span, k .conts, k .gone, k .dropped, k .hand));
       }
 
   -- the superblock but for bytes 16 to 19
@@ -381,11 +421,44 @@ module _ (img : List ℕ) (L : Layout) (ts : List Table) (p : Plan) (c : Change 
   pub listed-bytes : (n : ℕ) → 1 ≤ count n (freePages (L .free)) → count n (blockPages L) ≡ 0 → count n (drawnBy L p .pages) ≡ 0 → (a v : ℕ) → Agree v (pg after n) a (pg img n) a
   listed-bytes n is other kept a v = stays-by n a v (free-spared n a v kept is (inl other))
 
+  -- a page given back, behind its free mark, or behind what a block lists where it becomes one: m is where that ends
+  pub given-bytes : (n : ℕ) → 1 ≤ count n (givenBy p) → (m : ℕ) → 8 ≤ m → Bounded n m (drawnBy L p .free) → (a v : ℕ) → m ≤ a → Agree v (pg after n) a (pg img n) a
+  unfolding writesOf
+  given-bytes n is m low bound a v past =
+      let k : Counts n = counted n in
+      let x : PlanNamed L (c .table) (c .place) p = c .writes in
+      let mine : 1 ≤ count n (tablePages (c .table)) = omega (arith, k .parts, k .conts, k .gone, k .dropped, count-append n (drop (p .wanted) (p .old)) (p .gone)) in
+      let off : n ≡ 1 → ⊥ = λ e. not-super (k .once) mine e in
+      let dw : List Write = drawnBy L p .writes in
+      let mw : List Write = p .make (drawnBy L p .pages) .writes in
+      agree-missed n a v (dw ++ mw) img
+      (every-so (Named (c .table) (blockPages L) (handOf L (c .table) (c .place) p)) (named-fits (c .table) (blockPages L) (handOf L (c .table) (c .place) p)) (dw ++ mw)
+      (all-named L (c .table) (c .place) p x))
+      (every-join (Misses n a v) dw mw
+      (every-so (Ends n m) ended dw (draw-ends n m off low (p .old) (p .wanted) (p .gone) (L .free) (omega (arith, k .once, k .blocks)) bound))
+      (every-so (Spares n) (λ w e. inl e) mw
+      (pages-apart (x .made) [] (x .hand) mw n (x .making)
+      (omega (arith, k .once, k .parts, x .apart n (omega (arith, k .once)) is, ap (λ (r : ℕ). count n (r ∷ [])) (x .root), k .conts, k .gone, k .dropped, count-append n (drop (p .wanted) (p .old)) (p .gone))))))
+    where
+      not-super : count n (1 ∷ []) + (count n (tablePages (c .table)) + count n (freePages (L .free))) ≤ 1 → 1 ≤ count n (tablePages (c .table)) → n ≡ 1 → ⊥
+      not-super o h e = omega (arith, ap (λ (j : ℕ). count j (1 ∷ [])) e)
+
+      ended : (w : Write) → Ends n m w → Misses n a v w
+      ended w h = go (ℕ-discrete n (w .page))
+        where
+          go : Dec (n ≡ w .page) → Misses n a v w
+          go (yes e) = inr (inr (omega (arith, h e)))
+          go (no e) = inl e
+
+  -- so a page given back that is listed, and no block, keeps all behind the free mark
+  pub freed-bytes : (n : ℕ) → 1 ≤ count n (givenBy p) → count n (map (λ b. b .page) (drawnBy L p .free)) ≡ 0 → (a v : ℕ) → 8 ≤ a → Agree v (pg after n) a (pg img n) a
+  freed-bytes n is listed a v past = given-bytes n is 8 (omega arith) (bounded-none n 8 (drawnBy L p .free) listed) a v past
+
   -- every other page: not the superblock, not of the table, not free
   pub other-page : (n : ℕ) → count n (1 ∷ []) + (count n (tablePages (c .table)) + count n (freePages (L .free))) ≡ 0 → pg after n ≡ pg img n
   other-page n z =
       let k : Counts n = counted n in
-      named-elsewhere (c .table) (blockPages L) (handOf L (c .table) (c .place) p) (writesOf L p) img (c .named) n (omega (arith, k .parts, k .span, k .conts, k .gone, k .drawn, k .hand, k .blocks))
+      named-elsewhere (c .table) (blockPages L) (handOf L (c .table) (c .place) p) (writesOf L p) img (all-named L (c .table) (c .place) p (c .writes)) n (omega (arith, k .parts, k .span, k .conts, k .gone, k .drawn, k .hand, k .blocks))
 
 -- ---- Each call
 

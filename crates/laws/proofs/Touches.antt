@@ -18,7 +18,7 @@ use Rattle.blockfile.specs.Encode.{streamPages, wholeSpan, wholeTower, wholeSki
 use Rattle.blockfile.specs.Put.{prevLink, nextLink, countsOn, lastAt, relink, raise, rewriting}
 use Rattle.blockfile.specs.Remove.{unlinking}
 use Rattle.blockfile.specs.Create.{wholeTable}
-use Rattle.blockfile.proofs.Every.{every-left, every-right, every-join, every-so, every-map}
+use Rattle.blockfile.proofs.Every.{every-left, every-join, every-so, every-map}
 use Rattle.laws.proofs.Numbers.{length-word16, length-word32}
 use Rattle.laws.proofs.Places.{every-take, every-drop}
 use Rattle.laws.proofs.Encodes.{spanStream, towerBytes, skipBytes, length-page, length-tower, length-skip}
@@ -28,7 +28,7 @@ use Rattle.laws.proofs.Relinks.{every-from, every-gather, towers-cut}
 use Rattle.laws.proofs.Fitting.{length-levels}
 
 -- spans by their links, towers by their places, have what spans and towers have
-pub linked-spans : (P : Span → Type 0) (z p : ℕ) (ss : List Span) → Every P ss → Every (λ x. P (x .span)) (linkSpans z p ss)
+linked-spans : (P : Span → Type 0) (z p : ℕ) (ss : List Span) → Every P ss → Every (λ x. P (x .span)) (linkSpans z p ss)
 linked-spans P z p [] h = tt
 linked-spans P z p (s ∷ ss) h = (h .0, linked-spans P z (s .page) ss (h .1))
 
@@ -68,13 +68,13 @@ module _ (R : Write → Type 0) where
     pub start : Field n 0 16
     pub block : BlockHas n
 
-  abbrev BlocksHave : List Block → Type 0
+  abbrev pub BlocksHave : List Block → Type 0
   BlocksHave bs = Every (λ b. BlockHas (b .page)) bs
 
   -- what is written, and the blocks after it
-  record DrawnHas (d : Drawn) : Type 0 where
-    writes : Every R (d .writes)
-    free : BlocksHave (d .free)
+  pub record DrawnHas (d : Drawn) : Type 0 where
+    pub writes : Every R (d .writes)
+    pub free : BlocksHave (d .free)
 
   module _ (super : Field 1 16 4) where
     take-has : (n : ℕ) (ws : List ℕ) (c : ℕ) (bs : List Block) → BlockHas n → BlocksHave bs → DrawnHas (takeFrom n ws c bs)
@@ -108,7 +108,7 @@ module _ (R : Write → Type 0) where
     then-has : (d : Drawn) (f : List Block → Drawn) → DrawnHas d → ((bs : List Block) → BlocksHave bs → DrawnHas (f bs)) → DrawnHas (andThen d f)
     then-has d f a b = record { writes = every-join R (d .writes) (f (d .free) .writes) (a .writes) (b (d .free) (a .free) .writes); free = b (d .free) (a .free) .free }
 
-    pages-taken : (n : ℕ) (bs : List Block) → BlocksHave bs → DrawnHas (takeMany n bs)
+    pub pages-taken : (n : ℕ) (bs : List Block) → BlocksHave bs → DrawnHas (takeMany n bs)
     pages-taken zero bs f = record { writes = tt; free = f }
     pages-taken (suc n) bs f = then-has (takePage bs) (takeMany n) (page-taken bs f) (pages-taken n)
 
