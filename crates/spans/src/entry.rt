@@ -43,7 +43,7 @@ pub struct Skimmed {
 }
 
 // Whether a key may stand in the table, with a value of that length.
-fn allowed(image: &[u8], at: Place, key: usize, value: usize, rule: Rule) -> bool
+pub fn allowed(image: &[u8], at: Place, key: usize, value: usize, rule: Rule) -> bool
     requires { ⌜ Key (now image) at key × (1 ≤ key) × (key ≤ 65535) × (value ≤ 65535) ⌝ }
     ensures { λ r. ⌜ Allowed rule (now (image .entry)) at key value r ⌝ }
 {

@@ -6,14 +6,14 @@ use mathlib.Core.Path.{_≡_, refl, ap, sym, _∙_, subst}
 use mathlib.Core.Bool.{Bool, true, false, cond, true≢false}
 use mathlib.Core.List.{List, [], _∷_, _++_, map}
 use lib.ListN.{length, replicate, length-map, length-replicate}
-use lib.Dec.{T, eqb}
-use borrow.Author.Tests.{eqb-true}
+use lib.Dec.{T, leb, le→leb}
+use borrow.Author.Tests.{le-leb}
 use Rattle.blockfile.specs.declared.Counts.{Counts}
-use Rattle.blockfile.specs.Bytes.{pg, word32, Every, gather}
+use Rattle.blockfile.specs.Bytes.{pg, Every, gather}
 use Rattle.blockfile.specs.Layout.{Keyed, Entry, Table, Block, Layout, entriesOf, freeCount}
-use Rattle.blockfile.specs.Order.{Within, within, nameRule, keyRule}
+use Rattle.blockfile.specs.Order.{Within, within, allWithin, KeyRule, nameRule, keyRule, Rising}
 use Rattle.blockfile.specs.WellFormed.{Piece, superblock, pagesOf, Bears, TableOk, tablePieces, freePieces, firstBlock, pieces, WellFormed}
-use Rattle.blockfile.proofs.Bools.{so}
+use Rattle.blockfile.proofs.Bools.{holds, and-both, both-and, within-is}
 use Rattle.blockfile.proofs.Every.{every-so}
 use Rattle.pages.specs.Claims.{Lent, full}
 use Rattle.walks.specs.declared.Walked.{Walked}
@@ -22,6 +22,8 @@ use Rattle.walks.specs.Found.{claims, Fresh, Found, FindsAt}
 use Rattle.walks.proofs.Founds.{SameAt, same-turn, done-injective, refused-never, found-join, found-first, found-second, fresh-left, fresh-right, length-claims}
 use Rattle.walks.proofs.Once.{claimed-once, once-claimed}
 use Rattle.search.specs.Spans.{Borne}
+use Rattle.spans.specs.declared.Rule.the-variants.{Keys}
+use Rattle.spans.specs.Spans.{ruleOf, sized}
 use Rattle.spans.proofs.PageClaims.{inside-fresh}
 use Rattle.verify.specs.declared.superblock.Superblock.{Superblock}
 use Rattle.verify.specs.declared.superblock.Started.{Started}
@@ -31,10 +33,6 @@ use Rattle.verify.specs.Free.{FreeFound}
 use Rattle.verify.specs.Superblock.{SuperFound}
 use Rattle.verify.specs.Tables.{TableFound, listing, keysOf, TablesFound, MetaOn}
 use Rattle.verify.specs.Image.{countsOf, Judged}
-
--- values in the metaindex are four bytes long
-abbrev pub four : ℕ → Bool
-four n = eqb n 4
 
 abbrev tablesPieces : List (Keyed Table) → List Piece
 tablesPieces ns = gather (λ x. tablePieces (x .value)) ns
@@ -71,13 +69,14 @@ pub record Tabled (img : List ℕ) (p first : ℕ) (scr : List ℕ) (c : Counts)
   pub found : Found img scr (tablePieces meta ++ (tablesPieces tables ++ freePieces free)) out
   pub counts : c ≡ counted p (length tables) (keysOf tables) (freeCount free)
 
--- the metaindex that was found between two states of the scratch, with m names
+-- the metaindex that was found between two states of the scratch, with m keys; whether they are names is seen with the tables
 abbrev pub MetaFound : (img scr : List ℕ) (m : ℕ) (mid : List ℕ) → Type 0
-MetaFound img scr m mid = TableFound nameRule four img scr 2 m mid
+MetaFound img scr m mid = TableFound (ruleOf Keys) (sized Keys) img scr 2 m mid
 
 -- after the metaindex
 pub record Named (img : List ℕ) (p first : ℕ) (scr : List ℕ) (m : ℕ) (mid : List ℕ) (c : Counts) (out : List ℕ) : Type 0 where
   pub meta : MetaFound img scr m mid
+  pub names : Every (λ e. T (nameRule .allowed (e .key))) (entriesOf (meta .table))
   pub tables : List (Keyed Table)
   pub free : List Block
   pub metaEntries : entriesOf (meta .table) ≡ map listing tables
@@ -159,19 +158,46 @@ module _ (img scr : List ℕ) (r : Started) (s : List ℕ) (f : FindsAt Begun (S
 
 -- ---- The metaindex
 
-four-all : (ns : List (Keyed Table)) → Every (λ (e : Entry). T (four (length (e .value)))) (map listing ns)
-unfolding word32
-four-all [] = tt
-four-all (n ∷ ns) = (tt, four-all ns)
+-- a table under another rule with the same order
+module _ (r s : KeyRule) (order : r .below ≡ s .below) where
+  rising-same : (es : List Entry) → Rising r es → Rising s es
+  rising-same [] h = tt
+  rising-same (e ∷ es) h = (subst (λ (b : List ℕ → List ℕ → Bool). Every (λ (y : Entry). T (b (e .key) (y .key))) es) order (h .0), rising-same es (h .1))
 
-module _ (img : List ℕ) (p first : ℕ) (scr : List ℕ) (r : Walked) (s : List ℕ) (f : FindsAt Done (TableFound nameRule four img scr 2) r s) where
+  other-rule : (t : Table) → TableOk r t → Every (λ e. T (s .allowed (e .key))) (entriesOf t) → TableOk s t
+  other-rule t ok keys =
+      record {
+        spanSize = ok .spanSize;
+        sizes = ok .sizes;
+        filled = ok .filled;
+        reach = ok .reach;
+        keys = keys;
+        values = ok .values;
+        rising = rising-same (entriesOf t) (ok .rising);
+        heights = ok .heights;
+        others = ok .others;
+      }
+
+-- a name is a key, and names sort as keys do
+name-order : nameRule .below ≡ keyRule [] .below
+unfolding nameRule keyRule
+name-order = refl
+
+name-key : (k : List ℕ) → T (nameRule .allowed k) → T (keyRule [] .allowed k)
+unfolding nameRule keyRule
+name-key k h =
+    let w : Within 1 255 (length k) = within-is 1 255 (length k) (and-both (within 1 255 (length k)) (allWithin 0x21 0x7e k) h .0) in
+    both-and (leb 1 (length k)) (leb (length k) 65535) (le→leb 1 (length k) (w .0)) (le→leb (length k) 65535 (omega arith))
+
+module _ (img : List ℕ) (p first : ℕ) (scr : List ℕ) (r : Walked) (s : List ℕ) (f : FindsAt Done (MetaFound img scr) r s) where
   meta-of : (c : Counts) (out : List ℕ) (t : Tabled img p first scr c out) → MetaFound img scr (length (entriesOf (t .meta))) (claims scr (gather pagesOf (tablePieces (t .meta))))
   meta-of c out t =
       record {
         table = t .meta;
         named = t .metaPage;
-        ok = t .metaOk;
-        sizes = subst (Every (λ (e : Entry). T (four (length (e .value))))) (sym (t .metaEntries)) (four-all (t .tables));
+        ok = other-rule nameRule (keyRule []) name-order (t .meta) (t .metaOk)
+            (every-so (λ (e : Entry). T (nameRule .allowed (e .key))) (λ e. name-key (e .key)) (entriesOf (t .meta)) (t .metaOk .keys));
+        sizes = every-so (λ (e : Entry). length (e .value) ≤ 65535) (λ e l. holds _ (le-leb (length (e .value)) 65535 l)) (entriesOf (t .meta)) (t .metaOk .values);
         found = found-first img scr (tablePieces (t .meta)) (tablesPieces (t .tables) ++ freePieces (t .free)) out (t .found);
         keys = refl;
       }
@@ -193,7 +219,7 @@ module _ (img : List ℕ) (p first : ℕ) (scr : List ℕ) (r : Walked) (s : Lis
             tables = n .tables;
             free = n .free;
             metaPage = n .meta .named;
-            metaOk = n .meta .ok;
+            metaOk = other-rule (keyRule []) nameRule (sym name-order) (n .meta .table) (n .meta .ok) (n .names);
             metaEntries = n .metaEntries;
             tablesOk = n .tablesOk;
             start = n .start;
@@ -210,11 +236,12 @@ module _ (img : List ℕ) (p first : ℕ) (scr : List ℕ) (r : Walked) (s : Lis
             meta = record {
               table = t .meta;
               named = t .metaPage;
-              ok = t .metaOk;
+              ok = meta-of c out t .ok;
               sizes = meta-of c out t .sizes;
               found = subst (Found img scr (tablePieces (t .meta))) (sym (d .1)) (meta-of c out t .found);
               keys = i;
             };
+            names = t .metaOk .keys;
             tables = t .tables;
             free = t .free;
             metaEntries = t .metaEntries;
@@ -235,6 +262,7 @@ module _ (img : List ℕ) (p first : ℕ) (scr : List ℕ) (m : ℕ) (mid : List
       → TablesFound img mid (entriesOf (n .meta .table)) 0 (keysOf (n .tables)) (claims mid (gather pagesOf (tablesPieces (n .tables))))
   tables-of c out n =
       record {
+        names = n .names;
         tables = n .tables;
         named = n .metaEntries;
         ok = n .tablesOk;
@@ -253,6 +281,7 @@ module _ (img : List ℕ) (p first : ℕ) (scr : List ℕ) (m : ℕ) (mid : List
       to c out l =
           record {
             meta = l .meta;
+            names = l .tables .names;
             tables = l .tables .tables;
             free = l .free;
             metaEntries = l .tables .named;
@@ -270,6 +299,7 @@ module _ (img : List ℕ) (p first : ℕ) (scr : List ℕ) (m : ℕ) (mid : List
           record {
             meta = n .meta;
             tables = record {
+              names = n .names;
               tables = n .tables;
               named = n .metaEntries;
               ok = n .tablesOk;
@@ -394,7 +424,6 @@ meta-on img scr m mid lent x =
       small = omega (arith, lent .size, lent .most);
       page = x .named;
       ok = x .ok;
-      fours = every-so (λ (e : Entry). T (four (length (e .value)))) (λ e t. eqb-true (length (e .value)) 4 (so _ t)) (entriesOf (x .table)) (x .sizes);
       borne = borne-found img scr (tablePieces (x .table)) (lent .size) (x .found .bears) (x .found .fresh);
     }
 
@@ -408,7 +437,7 @@ module _ (img scr : List ℕ) (lent : Lent img scr) (enough : 4 ≤ length scr) 
     pub bad-super : r ≡ Unstarted → Judged img Bad
     bad-super q = bad (λ c out w e. no-super img scr r s f q c out w)
 
-    module _ (a : Superblock) (e : r ≡ Begun a) (lent₁ : Lent img s) (r₁ : Walked) (s₁ : List ℕ) (f₁ : FindsAt Done (TableFound nameRule four img s 2) r₁ s₁) where
+    module _ (a : Superblock) (e : r ≡ Begun a) (lent₁ : Lent img s) (r₁ : Walked) (s₁ : List ℕ) (f₁ : FindsAt Done (MetaFound img s) r₁ s₁) where
       started : SameAt (Tabled img (length scr) (a .free) s) (Whole img scr)
       started = past-super img scr r s f a e
 

@@ -2,16 +2,17 @@
 use Prim.Native.Nat.{ℕ, suc, _+_, _*_, _-_, _/_, _%_, _≤_, _<_}
 use native.Mathlib.Omega.{arith}
 use mathlib.Core.Path.{_≡_, refl, ap, ap₂, sym, _∙_, subst}
-use mathlib.Core.Bool.{Bool}
+use mathlib.Core.Bool.{Bool, true, false, true≢false}
 use mathlib.Core.List.{List, [], _∷_, _++_, map, map-append, head-eq-of-cons-eq, tail-eq-of-cons-eq, nil≢cons, cons≢nil}
 use lib.ListN.{length, take, drop, getD, length-append, length-map, take-append-drop}
-use borrow.Author.Tests.{le-leb}
+use lib.Dec.{T, eqb, eqb→eq}
+use borrow.Author.Tests.{le-leb, eq-eqb}
 use Rattle.blockfile.specs.Bytes.{pg, be16, be32, word32, Every, gather, firstOf}
 use Rattle.blockfile.specs.Layout.{Keyed, Entry, Span, Table, columns, spansOf, entriesOf, reached}
-use Rattle.blockfile.specs.Order.{KeyRule, keyRule}
+use Rattle.blockfile.specs.Order.{KeyRule, nameRule, keyRule}
 use Rattle.blockfile.specs.Fields.{IsSkipList}
 use Rattle.blockfile.specs.WellFormed.{Piece, span, tower, linkSpans, spansIn, towersIn, skipListOf, TableOk, tablePieces}
-use Rattle.blockfile.proofs.Bools.{holds}
+use Rattle.blockfile.proofs.Bools.{so, holds, and-both, both-and, within-is}
 use Rattle.blockfile.proofs.Every.{every-left, every-right, every-join, every-so}
 use Rattle.blockfile.proofs.Owned.{ownedBy, owned-append}
 use Rattle.laws.proofs.Numbers.{be32-agree, be32-below, be32-word32}
@@ -28,9 +29,11 @@ use Rattle.entries.specs.declared.place.Sizes.{Sizes}
 use Rattle.entries.specs.Places.{IsPage, Enough, Moved, gap, Measured, Numbered}
 use Rattle.entries.proofs.Octets.{Byte, bytes-at, bytes-take, bytes-rest}
 use Rattle.search.specs.Spans.{Borne, BytesAt, Along, EntryAt}
-use Rattle.search.proofs.Entries.{bytes-enough, bytes-length, along-enough, along-entry, borne-along}
-use Rattle.spans.specs.declared.Rule.the-variants.{Keys}
+use Rattle.entries.specs.Keys.{Key}
+use Rattle.search.proofs.Entries.{bytes-key, bytes-enough, bytes-length, along-enough, along-entry, entry-key, borne-along}
+use Rattle.spans.specs.declared.Rule.the-variants.{Names, Keys}
 use Rattle.spans.specs.Spans.{ruleOf, sized, entriesIn}
+use Rattle.spans.specs.Entries.{fits, Allowed}
 use Rattle.towers.proofs.Heads.{span-few}
 use Rattle.verify.specs.Tables.{TableFound, listing, keysOf, TablesFound, NamesOn, MetaOn}
 
@@ -112,7 +115,19 @@ rule-same : (k : List ℕ) → keyRule k ≡ keyRule []
 unfolding keyRule
 rule-same k = refl
 
-module _ (img scr : List ℕ) (lent : Lent img scr) (e : Entry) (es : List Entry) (n root : ℕ) (word : e .value ≡ word32 root) (small : root < 4294967296) where
+key-some : (k : List ℕ) → T (keyRule [] .allowed k) → 1 ≤ length k
+unfolding keyRule
+key-some k h = within-is 1 65535 (length k) h .0
+
+-- the first of the entries that name tables passes the test
+listing-fits : (e : Entry) (es : List Entry) (ts : List (Keyed Table)) → T (nameRule .allowed (e .key)) → e ∷ es ≡ map listing ts → fits Names (e .key) (length (e .value)) ≡ true
+unfolding word32
+listing-fits e es [] a q = absurd (cons≢nil q)
+listing-fits e es (t ∷ ts) a q =
+    let four : length (e .value) ≡ 4 = ap (λ (x : Entry). length (x .value)) (head-eq-of-cons-eq q) in
+    so _ (both-and (eqb (length (e .value)) 4) (nameRule .allowed (e .key)) (holds _ (eq-eqb (length (e .value)) 4 four)) a)
+
+module _ (img scr : List ℕ) (lent : Lent img scr) (e : Entry) (es : List Entry) (n root : ℕ) (name : T (nameRule .allowed (e .key))) (word : e .value ≡ word32 root) (small : root < 4294967296) where
   -- the first table, and the others after it
   record Parted (m : ℕ) (out : List ℕ) : Type 0 where
     keys : ℕ
@@ -120,10 +135,10 @@ module _ (img scr : List ℕ) (lent : Lent img scr) (e : Entry) (es : List Entry
     first : TableFound (ruleOf Keys) (sized Keys) img scr root keys mid
     rest : TablesFound img mid es (n + keys) m out
 
-  part : (m : ℕ) (out : List ℕ) (ts : List (Keyed Table)) → e ∷ es ≡ map listing ts → Every (λ x. TableOk (keyRule (x .key)) (x .value)) ts
-      → Found img scr (named ts) out → m ≡ n + keysOf ts → Parted m out
-  part m out [] q ok f k = absurd (cons≢nil q)
-  part m out (t ∷ ts) q ok f k =
+  part : (m : ℕ) (out : List ℕ) (ts : List (Keyed Table)) → Every (λ x. T (nameRule .allowed (x .key))) es → e ∷ es ≡ map listing ts
+      → Every (λ x. TableOk (keyRule (x .key)) (x .value)) ts → Found img scr (named ts) out → m ≡ n + keysOf ts → Parted m out
+  part m out [] a q ok f k = absurd (cons≢nil q)
+  part m out (t ∷ ts) a q ok f k =
       let o : Open scr (t .value .root) = f .fresh .0 in
       let h : e ≡ listing t = head-eq-of-cons-eq q in
       let is : t .value .root ≡ root = word-injective (t .value .root) root (omega (arith, o .high, lent .most)) small (ap (λ (x : Entry). x .value) (sym h) ∙ word) in
@@ -140,6 +155,7 @@ module _ (img scr : List ℕ) (lent : Lent img scr) (e : Entry) (es : List Entry
           keys = refl;
         };
         rest = record {
+          names = a;
           tables = ts;
           named = tail-eq-of-cons-eq q;
           ok = ok .1;
@@ -149,12 +165,13 @@ module _ (img scr : List ℕ) (lent : Lent img scr) (e : Entry) (es : List Entry
       }
 
   parted : (m : ℕ) (out : List ℕ) → TablesFound img scr (e ∷ es) n m out → Parted m out
-  parted m out f = part m out (f .tables) (f .named) (f .ok) (f .found) (f .keys)
+  parted m out f = part m out (f .tables) (f .names .1) (f .named) (f .ok) (f .found) (f .keys)
 
   joined : (k : ℕ) (mid : List ℕ) (m : ℕ) (out : List ℕ) → TableFound (ruleOf Keys) (sized Keys) img scr root k mid → TablesFound img mid es (n + k) m out
       → TablesFound img scr (e ∷ es) n m out
   joined k mid m out t f =
       record {
+        names = (name, f .names);
         tables = record { key = e .key; value = t .table } ∷ f .tables;
         named = ap₂ (λ (x : Entry) (xs : List Entry). x ∷ xs) (λ i. record { key = e .key; value = (word ∙ ap word32 (sym (t .named))) i }) (f .named);
         ok = (subst (λ r. TableOk r (t .table)) (sym (rule-same (e .key))) (t .ok), f .ok);
@@ -180,7 +197,7 @@ module _ (img scr : List ℕ) (lent : Lent img scr) (e : Entry) (es : List Entry
 -- ---- The loop over the entries of a span
 
 no-names : (img scr : List ℕ) (n : ℕ) → TablesFound img scr [] n n scr
-no-names img scr n = record { tables = []; named = refl; ok = tt; found = found-none img scr; keys = omega arith }
+no-names img scr n = record { names = tt; tables = []; named = refl; ok = tt; found = found-none img scr; keys = omega arith }
 
 only-none : (img scr : List ℕ) (n m : ℕ) (out : List ℕ) (ts : List (Keyed Table)) → [] ≡ map listing ts → Found img scr (named ts) out → m ≡ n + keysOf ts
     → (n ≡ m) × (scr ≡ out)
@@ -196,7 +213,7 @@ pub record Naming (img scr₀ : List ℕ) (es : List Entry) (before : ℕ) (scr 
   pub rest : List Entry
   pub along : Along img at rest
   pub count : left ≡ length rest
-  pub fours : Every (λ e. length (e .value) ≡ 4) rest
+  pub some : Every (λ e. 1 ≤ length (e .key)) rest
   pub long : length scr ≡ length scr₀
   pub few : keys + 128 * zeros scr ≤ before + 128 * zeros scr₀
   pub same : SameAt (TablesFound img scr rest keys) (TablesFound img scr₀ es before)
@@ -208,7 +225,7 @@ naming-start img scr page before es h n e =
       rest = es;
       along = h .along;
       count = e ∙ h .count;
-      fours = h .fours;
+      some = h .some;
       long = refl;
       few = omega arith;
       same = same-start (TablesFound img scr es before);
@@ -229,18 +246,18 @@ module _ {img scr₀ : List ℕ} {es : List Entry} {before : ℕ} {scr : List �
     more : List Entry
     along : Along img at (first ∷ more)
     count : left ≡ suc (length more)
-    four : length (first .value) ≡ 4
-    fours : Every (λ e. length (e .value) ≡ 4) more
+    filled : 1 ≤ length (first .key)
+    some : Every (λ e. 1 ≤ length (e .key)) more
     same : SameAt (TablesFound img scr (first ∷ more) keys) (TablesFound img scr₀ es before)
 
   module _ (some : left ≡ 0 → ⊥) where
     turn : Turn
-    turn = go (v .rest) (v .along) (v .count) (v .fours) (v .same)
+    turn = go (v .rest) (v .along) (v .count) (v .some) (v .same)
       where
-        go : (rest : List Entry) → Along img at rest → left ≡ length rest → Every (λ e. length (e .value) ≡ 4) rest
+        go : (rest : List Entry) → Along img at rest → left ≡ length rest → Every (λ e. 1 ≤ length (e .key)) rest
             → SameAt (TablesFound img scr rest keys) (TablesFound img scr₀ es before) → Turn
         go [] a c f s = absurd (some c)
-        go (e ∷ rest) a c f s = record { first = e; more = rest; along = a; count = c; four = f .0; fours = f .1; same = s }
+        go (e ∷ rest) a c f s = record { first = e; more = rest; along = a; count = c; filled = f .0; some = f .1; same = s }
 
     pub naming-lengths : Enough img at (gap (at .offset) 4 + 4)
     naming-lengths = along-enough (turn .along)
@@ -255,41 +272,63 @@ module _ {img scr₀ : List ℕ} {es : List Entry} {before : ℕ} {scr : List �
       pub naming-past : Enough img (g .after) (g .key + g .value)
       naming-past = entry .enough
 
-      module _ (p : Place) (to : Moved img (g .after) (g .key) p) where
-        value : BytesAt img p (g .value) (turn .first .value)
-        value = entry .value p to
+      -- what the test of the name asks
+      pub naming-name : Key img (g .after) (g .key) × (1 ≤ g .key)
+      naming-name = (entry-key entry, omega (arith, bytes-length (entry .key), turn .filled))
 
-        pub naming-value : Enough img p 4
-        naming-value =
-            let b : BytesAt img p (g .value) (turn .first .value) = value in
-            let l : length (turn .first .value) ≡ g .value = bytes-length b in
-            record { bytes = b .bytes; rest = b .rest; long = omega (arith, b .long, turn .four) }
+      value-long : length (turn .first .value) ≡ g .value
+      value-long = omega (arith, bytes-length (entry .key), simp length-append at (bytes-length (entry .both)))
 
-        module _ (lent : Lent img scr) (bytes : (i : ℕ) → getD img i 0 < 256) (root : ℕ) (is : Numbered img p root) (r : Walked) (s : List ℕ)
-            (f : FindsAt Done (TableFound (ruleOf Keys) (sized Keys) img scr root) r s) where
-          word : turn .first .value ≡ word32 root
-          word = value-word img bytes p (g .value) (turn .first .value) value (turn .four) root is
+      module _ (legal : Bool) (a : Allowed Names img (g .after) (g .key) (g .value) legal) where
+        fit : legal ≡ fits Names (turn .first .key) (length (turn .first .value))
+        fit = a .is (turn .first .key) (bytes-key (entry .key)) ∙ ap (fits Names (turn .first .key)) (sym value-long)
 
-          small : root < 4294967296
-          small = value-below img bytes p (g .value) (turn .first .value) value (turn .four) root is
+        pub naming-unnamed : legal ≡ false → FindsAt Done (TablesFound img scr₀ es before) Refused scr
+        naming-unnamed e =
+            finds-none Done Refused scr (turn .same) refused-never
+            (λ m out f. true≢false (sym (listing-fits (turn .first) (turn .more) (f .tables) (f .names .0) (f .named)) ∙ (sym fit ∙ e)))
 
-          pub naming-no : r ≡ Refused → FindsAt Done (TablesFound img scr₀ es before) Refused s
-          naming-no e =
-              finds-none Done Refused s (turn .same) refused-never
-              (name-no img scr lent (turn .first) (turn .more) keys root word small r s f e)
+        module _ (passed : legal ≡ true) where
+          parts : T (eqb (length (turn .first .value)) 4) × T (nameRule .allowed (turn .first .key))
+          parts = and-both (eqb (length (turn .first .value)) 4) (nameRule .allowed (turn .first .key)) (holds _ (sym fit ∙ passed))
 
-          pub naming-next : (k : ℕ) → r ≡ Done k → (q : Place) → Moved img (g .after) (g .key + g .value) q → Naming img scr₀ es before s q (left - 1) (keys + k)
-          naming-next k e q on =
-              let b : (k + 128 * zeros s ≤ 128 * zeros scr) × (length s ≡ length scr) = table-fewer img scr root k s (f .sound k e) in
-              record {
-                rest = turn .more;
-                along = entry .next q on;
-                count = omega (arith, turn .count);
-                fours = turn .fours;
-                long = b .1 ∙ v .long;
-                few = omega (arith, b .0, v .few);
-                same = same-turn (name-next img scr lent (turn .first) (turn .more) keys root word small r s f k e) (turn .same);
-              }
+          four : length (turn .first .value) ≡ 4
+          four = eqb→eq (length (turn .first .value)) 4 (parts .0)
+
+          module _ (p : Place) (to : Moved img (g .after) (g .key) p) where
+            value : BytesAt img p (g .value) (turn .first .value)
+            value = entry .value p to
+
+            pub naming-value : Enough img p 4
+            naming-value =
+                let v : BytesAt img p (g .value) (turn .first .value) = value in
+                record { bytes = v .bytes; rest = v .rest; long = omega (arith, v .long, value-long, four) }
+
+            module _ (lent : Lent img scr) (bytes : (i : ℕ) → getD img i 0 < 256) (root : ℕ) (is : Numbered img p root) (r : Walked) (s : List ℕ)
+                (f : FindsAt Done (TableFound (ruleOf Keys) (sized Keys) img scr root) r s) where
+              word : turn .first .value ≡ word32 root
+              word = value-word img bytes p (g .value) (turn .first .value) value four root is
+
+              small : root < 4294967296
+              small = value-below img bytes p (g .value) (turn .first .value) value four root is
+
+              pub naming-no : r ≡ Refused → FindsAt Done (TablesFound img scr₀ es before) Refused s
+              naming-no e =
+                  finds-none Done Refused s (turn .same) refused-never
+                  (name-no img scr lent (turn .first) (turn .more) keys root (parts .1) word small r s f e)
+
+              pub naming-next : (k : ℕ) → r ≡ Done k → (q : Place) → Moved img (g .after) (g .key + g .value) q → Naming img scr₀ es before s q (left - 1) (keys + k)
+              naming-next k e q on =
+                  let b : (k + 128 * zeros s ≤ 128 * zeros scr) × (length s ≡ length scr) = table-fewer img scr root k s (f .sound k e) in
+                  record {
+                    rest = turn .more;
+                    along = entry .next q on;
+                    count = omega (arith, turn .count);
+                    some = turn .some;
+                    long = b .1 ∙ v .long;
+                    few = omega (arith, b .0, v .few);
+                    same = same-turn (name-next img scr lent (turn .first) (turn .more) keys root (parts .1) word small r s f k e) (turn .same);
+                  }
 
 -- ---- The entries of one span after those of another
 
@@ -339,6 +378,7 @@ module _ (img scr : List ℕ) (es fs : List Entry) (n : ℕ) where
         keys = n + keysOf (s .left);
         mid = claims scr (ownedBy (named (s .left)));
         first = record {
+          names = every-left (λ (e : Entry). T (nameRule .allowed (e .key))) es fs (f .names);
           tables = s .left;
           named = s .first;
           ok = every-left Ok (s .left) (s .right) ok;
@@ -346,6 +386,7 @@ module _ (img scr : List ℕ) (es fs : List Entry) (n : ℕ) where
           keys = refl;
         };
         rest = record {
+          names = every-right (λ (e : Entry). T (nameRule .allowed (e .key))) es fs (f .names);
           tables = s .right;
           named = s .second;
           ok = every-right Ok (s .left) (s .right) ok;
@@ -357,6 +398,7 @@ module _ (img scr : List ℕ) (es fs : List Entry) (n : ℕ) where
   whole : (k : ℕ) (mid : List ℕ) (m : ℕ) (out : List ℕ) → TablesFound img scr es n k mid → TablesFound img mid fs k m out → TablesFound img scr (es ++ fs) n m out
   whole k mid m out x y =
       record {
+        names = every-join (λ (e : Entry). T (nameRule .allowed (e .key))) es fs (x .names) (y .names);
         tables = x .tables ++ y .tables;
         named = ap₂ (λ (xs ys : List Entry). xs ++ ys) (x .named) (y .named) ∙ sym (map-append listing (x .tables) (y .tables));
         ok = every-join Ok (x .tables) (y .tables) (x .ok) (y .ok);
@@ -388,7 +430,7 @@ pub record Tabling (img scr₀ : List ℕ) (meta : Table) (scr : List ℕ) (page
   pub rest : List Span
   pub borne : Every (Borne img) (map span (linkSpans (meta .spanSize) prev rest))
   pub reach : Every (λ s. 1 + length (s .conts) ≡ reached (s .entries)) rest
-  pub fours : Every (λ e. length (e .value) ≡ 4) (entriesIn rest)
+  pub some : Every (λ e. 1 ≤ length (e .key)) (entriesIn rest)
   pub starts : page ≡ firstOf (map (λ s. s .page) rest)
   pub count : left ≡ length rest
   pub long : length scr ≡ length scr₀
@@ -408,7 +450,7 @@ module _ (img scr : List ℕ) (meta : Table) (h : MetaOn img meta) where
         rest = spansOf (columns meta);
         borne = every-left (Borne img) (map span (spansIn meta)) (map tower (towersIn meta)) (h .borne .1);
         reach = h .ok .reach;
-        fours = h .fours;
+        some = every-so (λ (e : Entry). T (keyRule [] .allowed (e .key))) (λ e. key-some (e .key)) (entriesOf meta) (h .ok .keys);
         starts = p ∙ k .first;
         count = l ∙ k .spans ∙ sym (length-map (columns meta) (λ c. c .span));
         long = refl;
@@ -435,15 +477,15 @@ module _ {img scr₀ : List ℕ} {meta : Table} {scr : List ℕ} {page left keys
     next : be32 (pg img page) 12 ≡ firstOf (map (λ s. s .page) more)
     borne : Every (Borne img) (map span (linkSpans (meta .spanSize) (first .page) more))
     reach : Every (λ s. 1 + length (s .conts) ≡ reached (s .entries)) more
-    fours : Every (λ e. length (e .value) ≡ 4) (entriesIn more)
+    some : Every (λ e. 1 ≤ length (e .key)) (entriesIn more)
     same : SameAt (TablesFound img scr (first .entries ++ entriesIn more) keys) (TablesFound img scr₀ (entriesOf meta) 0)
 
   module _ (some : left ≡ 0 → ⊥) where
     ahead : Ahead
-    ahead = go (v .rest) (v .borne) (v .reach) (v .fours) (v .starts) (v .count) (v .same)
+    ahead = go (v .rest) (v .borne) (v .reach) (v .some) (v .starts) (v .count) (v .same)
       where
         go : (rest : List Span) → Every (Borne img) (map span (linkSpans (meta .spanSize) (v .prev) rest)) → Every (λ s. 1 + length (s .conts) ≡ reached (s .entries)) rest
-            → Every (λ e. length (e .value) ≡ 4) (entriesIn rest) → page ≡ firstOf (map (λ s. s .page) rest) → left ≡ length rest
+            → Every (λ e. 1 ≤ length (e .key)) (entriesIn rest) → page ≡ firstOf (map (λ s. s .page) rest) → left ≡ length rest
             → SameAt (TablesFound img scr (entriesIn rest) keys) (TablesFound img scr₀ (entriesOf meta) 0) → Ahead
         go [] b h f p c e = absurd (some c)
         go (s ∷ rest) b h f p c e =
@@ -458,12 +500,12 @@ module _ {img scr₀ : List ℕ} {meta : Table} {scr : List ℕ} {page left keys
                     inside = b .0 .1 .0;
                     count = b .0 .0 .size;
                     along = borne-along (v .small) (b .0) (h .0);
-                    fours = every-left (λ (x : Entry). length (x .value) ≡ 4) (s .entries) (entriesIn rest) f;
+                    some = every-left (λ (x : Entry). 1 ≤ length (x .key)) (s .entries) (entriesIn rest) f;
                   });
               next = ap (λ (n : ℕ). be32 (pg img n) 12) p ∙ b .0 .0 .next;
               borne = b .1;
               reach = h .1;
-              fours = every-right (λ (x : Entry). length (x .value) ≡ 4) (s .entries) (entriesIn rest) f;
+              some = every-right (λ (x : Entry). 1 ≤ length (x .key)) (s .entries) (entriesIn rest) f;
               same = e;
             }
 
@@ -486,7 +528,7 @@ module _ {img scr₀ : List ℕ} {meta : Table} {scr : List ℕ} {page left keys
             rest = ahead .more;
             borne = ahead .borne;
             reach = ahead .reach;
-            fours = ahead .fours;
+            some = ahead .some;
             starts = q ∙ ahead .next;
             count = omega (arith, ahead .count);
             long = l ∙ v .long;

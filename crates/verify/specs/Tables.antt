@@ -34,6 +34,7 @@ keysOf (n ∷ ns) = length (entriesOf (n .value)) + keysOf ns
 
 -- the tables that the entries of the metaindex name; with n keys before, they have m in all
 pub record TablesFound (img scr : List ℕ) (es : List Entry) (n m : ℕ) (out : List ℕ) : Type 0 where
+  pub names : Every (λ e. T (nameRule .allowed (e .key))) es
   pub tables : List (Keyed Table)
   pub named : es ≡ map listing tables
   pub ok : Every (λ x. TableOk (keyRule (x .key)) (x .value)) tables
@@ -69,18 +70,17 @@ pub record CountsAre (b : List ℕ) (keys spans levels : ℕ) : Type 0 where
   pub spansIs : be32 b 20 ≡ spans
   pub levelsIs : be32 b 24 ≡ levels
 
--- es are the entries of the metaindex's span on the page, from place to place; their values are four bytes long
+-- es are the entries of the metaindex's span on the page, from place to place; their keys are not empty
 pub record NamesOn (img : List ℕ) (page : ℕ) (es : List Entry) : Type 0 where
   pub small : length img ≤ 4194304
   pub inside : IsPage img page
   pub count : be16 (pg img page) 18 ≡ length es
   pub along : Along img (record { page = page; offset = 20 }) es
-  pub fours : Every (λ e. length (e .value) ≡ 4) es
+  pub some : Every (λ e. 1 ≤ length (e .key)) es
 
--- the metaindex, on pages of the image that bear it
+-- the metaindex, on pages of the image that bear it; whether its keys are names is not known yet
 pub record MetaOn (img : List ℕ) (meta : Table) : Type 0 where
   pub small : length img ≤ 4194304
   pub page : meta .root ≡ 2
-  pub ok : TableOk nameRule meta
-  pub fours : Every (λ e. length (e .value) ≡ 4) (entriesOf meta)
+  pub ok : TableOk (keyRule []) meta
   pub borne : Every (Borne img) (tablePieces meta)

@@ -29,7 +29,7 @@ pub fn verify(image: &[u8], scratch: &mut [u8]) -> Verdict
     let Started::Begun(s) = verify_superblock(image, scratch) else {
         return Verdict::Bad;
     };
-    let Walked::Done(tables) = verify_table(image, scratch, METAINDEX, Rule::Names) else {
+    let Walked::Done(tables) = verify_table(image, scratch, METAINDEX, Rule::Keys) else {
         return Verdict::Bad;
     };
     let Walked::Done(keys) = verify_tables(image, scratch) else {

@@ -15,10 +15,12 @@ use pages::read::get16;
 use pages::read::get32;
 use search::table::METAINDEX;
 use spans::Rule;
+use spans::entry::allowed;
 use walks::Walked;
 
 // Claims and reads the tables that the entries of the metaindex's span on `page` name. With `before` keys in the tables
-// before them, answers how many keys there are.
+// before them, answers how many keys there are. A name is tested when its table is come to, so that names that share a table
+// are not read beyond the second.
 fn verify_named(image: &[u8], scratch: &mut [u8], page: usize, before: usize) -> Walked
     requires { ⌜ Lent (now image) (now scratch) × ((es : List Entry) × NamesOn (now image) page es) × (before + 128 * zeros (now scratch) ≤ 524288) ⌝ }
     ensures { λ r. ⌜ ((es : List Entry) → NamesOn (now (image .entry)) page es → FindsAt Done (TablesFound (now (image .entry)) (now (scratch .entry)) es before) r (now (scratch .exit))) ⌝ }
@@ -29,6 +31,9 @@ fn verify_named(image: &[u8], scratch: &mut [u8], page: usize, before: usize) ->
     while left != 0 {
         let g = lengths(image, at);
         let first = g.after;
+        if !allowed(image, first, g.key, g.value, Rule::Names) {
+            return Walked::Refused;
+        }
         let value = forward(image, first, g.key);
         let root = number(image, value);
         let Walked::Done(n) = verify_table(image, scratch, root, Rule::Keys) else {

@@ -2,12 +2,14 @@ use mathlib.Core.List.{List}
 use Prim.Native.Nat.{ℕ, _<_}
 use native.Mathlib.Omega.{arith}
 use mathlib.Core.Path.{_≡_, _∙_}
+use mathlib.Core.Bool.{true}
 use borrow.Author.Needs.{needs}
+use borrow.Author.Tests.{not-true, not-false}
 use lib.ListN.{getD}
 use Rattle.blockfile.specs.Layout.{Entry}
 use Rattle.pages.specs.Claims.{Lent}
 use Rattle.verify.specs.Tables.{NamesOn}
-use Rattle.verify.proofs.Named.{Naming, naming-start, naming-end, naming-lengths, naming-key, naming-past, naming-value, naming-no, naming-next, table-fewer}
+use Rattle.verify.proofs.Named.{Naming, naming-start, naming-end, naming-lengths, naming-key, naming-past, naming-name, naming-unnamed, naming-value, naming-no, naming-next, table-fewer}
 use Rattle.verify.proofs.names.verify_named.Statement.{statement}
 use Rattle.verify.proofs.names.verify_named.Tie as tie
 
@@ -43,18 +45,42 @@ bytes l i = let b = l .before .before .before .before .shared-slice-known .given
 lengths-requires : tie.Need-lengths-requires Inv-loop μ-loop
 lengths-requires c κs = naming-lengths (naming c) (c .loop-test .taken)
 
+allowed-requires : tie.Need-allowed-requires Inv-loop μ-loop
+allowed-requires c κs =
+    let l = c .before .before in
+    let g = c .before .lengths .ensures in
+    let n = naming-name (naming l) (l .loop-test .taken) _ g in
+    (n .0, n .1, omega (arith, g .keyBelow), omega (arith, g .valueBelow))
+
+same-length : tie.Need-same-length Inv-loop μ-loop
+same-length c = naming (c .before .before .before .before) .long
+
+returns : tie.Need-returns Inv-loop μ-loop
+returns c es h =
+    let a = c .before in
+    let g = a .before .before in
+    let l = g .before in
+    naming-unnamed (l .before .loop .inv es h) (l .loop-test .taken) _ (g .lengths .ensures) _ (a .allowed .ensures) (not-true _ (c .if1 .taken))
+
+-- the name passed the test
+passed : (c : tie.Else1 Inv-loop μ-loop) → c .before .allowed .result ≡ true
+passed c = not-false _ (c .if1 .left)
+
 forward-requires : tie.Need-forward-requires Inv-loop μ-loop
 forward-requires c κs =
-    let l = c .before .before in
-    naming-key (naming l) (l .loop-test .taken) _ (c .before .lengths .ensures)
+    let g = c .before .before .before in
+    let l = g .before in
+    naming-key (naming l) (l .loop-test .taken) _ (g .lengths .ensures)
 
 number-requires : tie.Need-number-requires Inv-loop μ-loop
 number-requires c κs =
-    let g = c .before .before in
-    naming-value (naming (g .before)) (g .before .loop-test .taken) _ (g .lengths .ensures) _ (c .forward .ensures)
+    let e = c .before in
+    let g = e .before .before .before in
+    let l = g .before in
+    naming-value (naming l) (l .loop-test .taken) _ (g .lengths .ensures) _ (e .before .allowed .ensures) (passed e) _ (c .forward .ensures)
 
 verify-table-requires : tie.Need-verify-table-requires Inv-loop μ-loop
-verify-table-requires c κs = lent (c .before .before .before .before .before)
+verify-table-requires c κs = lent (c .before .before .before .before .before .before .before)
 
 enum-known-n : tie.Need-enum-known-n Inv-loop μ-loop
 enum-known-n c = search needs
@@ -62,52 +88,60 @@ enum-known-n c = search needs
 enum-told : tie.Need-enum-told Inv-loop μ-loop
 enum-told c = search needs
 
-same-length : tie.Need-same-length Inv-loop μ-loop
-same-length c = c .before .before .before .before .verify-table .kept .1 .0 ∙ naming (c .before .before .before .before .before .before .before .before .before .before) .long
+-- the loop's place of a table that was read
+abbrev loop-of : tie.After-verify-table Inv-loop μ-loop → tie.In-loop Inv-loop μ-loop
+loop-of took = took .before .before .before .before .before .before .before .before
 
-returns : tie.Need-returns Inv-loop μ-loop
-returns c es h =
+same-length-2 : tie.Need-same-length-2 Inv-loop μ-loop
+same-length-2 c = let took = c .before .before .before .before in took .verify-table .kept .1 .0 ∙ naming (loop-of took) .long
+
+returns-2 : tie.Need-returns-2 Inv-loop μ-loop
+returns-2 c es h =
     let took = c .before .before .before .before in
     let root = took .before .before in
-    let g = root .before .before .before in
+    let e = root .before .before in
+    let g = e .before .before .before in
     let l = g .before in
-    naming-no (l .before .loop .inv es h) (l .loop-test .taken) _ (g .lengths .ensures) _ (root .before .forward .ensures) (lent l) (bytes l) _ (root .number .ensures)
-    _ _ (took .verify-table .ensures) (c .enum-told .given .1)
+    naming-no (l .before .loop .inv es h) (l .loop-test .taken) _ (g .lengths .ensures) _ (e .before .allowed .ensures) (passed e) _ (root .before .forward .ensures) (lent l) (bytes l)
+    _ (root .number .ensures) _ _ (took .verify-table .ensures) (c .enum-told .given .1)
 
 add-keys : tie.Need-add-keys Inv-loop μ-loop
 add-keys c =
     let took = c .before .before .before .before .before in
-    let l = took .before .before .before .before .before .before in
+    let l = loop-of took in
     omega (arith, table-fewer _ _ _ _ _ (took .verify-table .ensures .sound _ (c .before .n .given .1)), naming l .few, l .before .before .before .before .before .pre .2)
 
 add-forward : tie.Need-add-forward Inv-loop μ-loop
-add-forward c = omega (arith, c .before .before .before .before .before .before .before .before .before .before .before .lengths .ensures .keyBelow, c .before .before .before .before .before .before .before .before .before .before .before .lengths .ensures .valueBelow)
+add-forward c =
+    let g = c .before .before .before .before .before .before .before .before .before .before .before .before .before .lengths .ensures in
+    omega (arith, g .keyBelow, g .valueBelow)
 
 forward-requires-2 : tie.Need-forward-requires-2 Inv-loop μ-loop
 forward-requires-2 c κs =
-    let g = c .before .before .before .before .before .before .before .before .before .before .before in
+    let g = c .before .before .before .before .before .before .before .before .before .before .before .before .before in
     naming-past (naming (g .before)) (g .before .loop-test .taken) _ (g .lengths .ensures)
 
 sub-left : tie.Need-sub-left Inv-loop μ-loop
-sub-left c = let t = c .before .before .before .before .before .before .before .before .before .before .before .before .before .loop-test .taken in omega arith
+sub-left c = let t = loop-of (c .before .before .before .before .before .before .before) .loop-test .taken in omega arith
 
 loop-less : tie.Need-loop-less Inv-loop μ-loop
-loop-less c = let t = c .before .before .before .before .before .before .before .before .before .before .before .before .before .loop-test .taken in omega arith
+loop-less c = let t = loop-of (c .before .before .before .before .before .before .before) .loop-test .taken in omega arith
 
 loop-again : tie.Need-loop-again Inv-loop μ-loop
 loop-again c es h =
     let took = c .before .before .before .before .before .before .before in
     let root = took .before .before in
-    let g = root .before .before .before in
+    let e = root .before .before in
+    let g = e .before .before .before in
     let l = g .before in
-    naming-next (l .before .loop .inv es h) (l .loop-test .taken) _ (g .lengths .ensures) _ (root .before .forward .ensures) (lent l) (bytes l) _ (root .number .ensures)
-    _ _ (took .verify-table .ensures) _ (c .before .before .before .n .given .1) _ (c .forward2 .ensures)
+    naming-next (l .before .loop .inv es h) (l .loop-test .taken) _ (g .lengths .ensures) _ (e .before .allowed .ensures) (passed e) _ (root .before .forward .ensures) (lent l) (bytes l)
+    _ (root .number .ensures) _ _ (took .verify-table .ensures) _ (c .before .before .before .n .given .1) _ (c .forward2 .ensures)
 
-same-length-2 : tie.Need-same-length-2 Inv-loop μ-loop
-same-length-2 c = c .before .loop .inv _ (c .before .before .before .before .before .pre .1 .1) .long
+same-length-3 : tie.Need-same-length-3 Inv-loop μ-loop
+same-length-3 c = c .before .loop .inv _ (c .before .before .before .before .before .pre .1 .1) .long
 
-returns-2 : tie.Need-returns-2 Inv-loop μ-loop
-returns-2 c es h = naming-end (c .before .loop .inv es h) (c .loop-test .left)
+returns-3 : tie.Need-returns-3 Inv-loop μ-loop
+returns-3 c es h = naming-end (c .before .loop .inv es h) (c .loop-test .left)
 
 pub verify-named-spec : {M : Type 1} → statement M
 verify-named-spec =
@@ -118,18 +152,21 @@ verify-named-spec =
     get16-requires
     loop-holds
     lengths-requires
+    allowed-requires
+    same-length
+    returns
     forward-requires
     number-requires
     verify-table-requires
     enum-known-n
     enum-told
-    same-length
-    returns
+    same-length-2
+    returns-2
     add-keys
     add-forward
     forward-requires-2
     sub-left
     loop-less
     loop-again
-    same-length-2
-    returns-2)
+    same-length-3
+    returns-3)
