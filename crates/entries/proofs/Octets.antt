@@ -12,7 +12,7 @@ use Rattle.entries.specs.Places.{streamOf, Rest}
 abbrev pub Byte : ℕ → Type 0
 Byte x = x < 256
 
-bytes-all : (s : List ℕ) → ((i : ℕ) → getD s i 0 < 256) → Every Byte s
+pub bytes-all : (s : List ℕ) → ((i : ℕ) → getD s i 0 < 256) → Every Byte s
 bytes-all [] h = tt
 bytes-all (x ∷ s) h = (h 0, bytes-all s (λ i. h (suc i)))
 
@@ -24,7 +24,7 @@ bytes-at (x ∷ s) h (suc i) = bytes-at s (h .1) i
 pub bytes-take : (n : ℕ) (s : List ℕ) → Every Byte s → Every Byte (take n s)
 bytes-take n s h = every-left Byte (take n s) (drop n s) (subst (Every Byte) (sym (take-append-drop n s)) h)
 
-bytes-drop : (n : ℕ) (s : List ℕ) → Every Byte s → Every Byte (drop n s)
+pub bytes-drop : (n : ℕ) (s : List ℕ) → Every Byte s → Every Byte (drop n s)
 bytes-drop n s h = every-right Byte (take n s) (drop n s) (subst (Every Byte) (sym (take-append-drop n s)) h)
 
 bytes-page : (img : List ℕ) (n : ℕ) → Every Byte img → Every Byte (pg img n)

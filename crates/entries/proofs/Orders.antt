@@ -17,11 +17,11 @@ use Rattle.blockfile.proofs.Bools.{so, not-so, same-eq}
 use Rattle.laws.proofs.Orders.{keys-ordered}
 use Rattle.blockfile.specs.Order.{keyRule}
 use Rattle.entries.specs.declared.key.Order.the-variants.{Less, Equal, Greater}
-use Rattle.entries.specs.Keys.{order, Least, SameFrom}
+use Rattle.entries.specs.Keys.{order, Least, SameFrom, Alike}
 
 -- ---- Less exactly where the text has the one key below the other, Equal exactly where they are the same
 
-irrefl : (k : List ℕ) → T (bytesBelow k k) → ⊥
+pub irrefl : (k : List ℕ) → T (bytesBelow k k) → ⊥
 unfolding keyRule
 irrefl k = keys-ordered [] .irrefl k
 
@@ -140,11 +140,6 @@ same-turn {x} {y} {i} {n} {d} s h e =
     same-more (s (z .0)) h (xor-same (getD x n 0) (getD y n 0) (z .1))
 
 -- ---- two lists whose first i bytes are the same
-
-pub record Alike (x y : List ℕ) (n i : ℕ) : Type 0 where
-  pub least : Least (length x) (length y) n
-  pub few : i ≤ n
-  pub rest : order (drop i x) (drop i y) ≡ order x y
 
 alike-none : {x y : List ℕ} {n : ℕ} → Least (length x) (length y) n → Alike x y n 0
 alike-none h = record { least = h; few = omega arith; rest = refl }

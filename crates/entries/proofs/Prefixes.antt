@@ -89,7 +89,7 @@ no-lead : (k : List ℕ) → lead 0 k ≡ 0
 unfolding lead
 no-lead k = refl
 
-lead-eight : (s : List ℕ) → be32 s 4 + be32 s 0 * 4294967296 ≡ lead 8 s
+pub lead-eight : (s : List ℕ) → be32 s 4 + be32 s 0 * 4294967296 ≡ lead 8 s
 unfolding be32 be16
 lead-eight s =
     omega (arith, lead-at 7 0 s, lead-at 6 1 s, lead-at 5 2 s, lead-at 4 3 s, lead-at 3 4 s, lead-at 2 5 s, lead-at 1 6 s, lead-at 0 7 s, no-lead (drop 8 s))

@@ -3,7 +3,7 @@ use Prim.Native.Nat.{ℕ, zero, suc, _+_, _*_, _^_, _≤_, _<_}
 use mathlib.Core.Path.{_≡_}
 use mathlib.Core.Bool.{Bool, true, cond}
 use mathlib.Core.List.{List, [], _∷_}
-use lib.ListN.{length, take, getD}
+use lib.ListN.{length, take, drop, getD}
 use Rattle.blockfile.specs.Order.{bytesBelow, same, allWithin}
 use Rattle.entries.specs.declared.key.Order.{Order}
 use Rattle.entries.specs.declared.key.Order.the-variants.{Less, Equal, Greater}
@@ -45,6 +45,12 @@ pub record Least (m n r : ℕ) : Type 0 where
 -- x and y have the same bytes from i on up to n
 pub record SameFrom (x y : List ℕ) (i n : ℕ) : Type 0 where
   pub bytes : (k : ℕ) → i ≤ k → k < n → getD x k 0 ≡ getD y k 0
+
+-- the first i bytes of x and y are the same, so that the others have their order; n is the smaller length
+pub record Alike (x y : List ℕ) (n i : ℕ) : Type 0 where
+  pub least : Least (length x) (length y) n
+  pub few : i ≤ n
+  pub rest : order (drop i x) (drop i y) ≡ order x y
 
 -- r bytes, at least one, of m and of n bytes that start at offsets a and b of pages, lie on these pages
 pub record Together (a m b n r : ℕ) : Type 0 where

@@ -5,10 +5,11 @@ ghost use mathlib.Core.Path.{_≡_};
 ghost use Prim.Native.Nat.{_+_, _≤_, _<_};
 ghost use lib.ListN.{length, take, drop};
 ghost use Rattle.blockfile.specs.Order.{allWithin};
-ghost use Rattle.entries.specs.Keys.{Key, order, Compared, ComparedTo, Printed, Least, SameFrom, Together, Near, OnPage, KeyBytes};
+ghost use Rattle.entries.specs.Keys.{Key, order, Compared, ComparedTo, Printed, Least, SameFrom, Alike, Together, Near, OnPage, KeyBytes};
 use crate::place::Place;
 use crate::place::settle;
 use crate::place::step;
+use crate::word::word;
 
 // Which of two keys comes first: by unsigned bytes, a proper prefix first.
 pub enum Order {
@@ -56,12 +57,38 @@ fn same_start(x: &[u8], y: &[u8], n: usize) -> usize
     if same_block(x, y, n - 64) { n } else { i }
 }
 
+// A number of bytes that two lists begin with alike, n at most: `from` of them are, and behind these whole words are compared. It
+// ends at a word that differs, or less than a word before n.
+fn same_words(x: &[u8], y: &[u8], n: usize, from: usize) -> usize
+    requires { ⌜ Alike (now x) (now y) n from ⌝ }
+    ensures { λ r. ⌜ Alike (now (x .entry)) (now (y .entry)) n r ⌝ }
+{
+    let mut i = from;
+    while 8 <= n - i {
+        if word(x, i) != word(y, i) {
+            return i;
+        }
+        i += 8;
+    }
+    i
+}
+
 // The order of two lists of bytes.
 fn compare_bytes(x: &[u8], y: &[u8]) -> Order
     ensures { λ r. ⌜ r ≡ order (now (x .entry)) (now (y .entry)) ⌝ }
 {
     let n = least(x.len(), y.len());
-    let mut i = same_start(x, y, n);
+    let mut i = same_words(x, y, n, same_start(x, y, n));
+    if 8 <= n - i {
+        let a = word(x, i);
+        let b = word(y, i);
+        if a < b {
+            return Order::Less;
+        }
+        if b < a {
+            return Order::Greater;
+        }
+    }
     while i < n {
         let a = x[i];
         let b = y[i];

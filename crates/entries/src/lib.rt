@@ -3,3 +3,4 @@ pub mod copy;
 pub mod key;
 pub mod place;
 pub mod prefix;
+pub mod word;
