@@ -17,7 +17,9 @@ pub enum Filling {
     ManySmall,
     /// The same with spans of 126 keys at most, all of them full.
     FullSpans,
-    /// The same with keys of 16 bytes, of which the first eight are the same.
+    /// Entries of seven bytes, 128 in a span: as many as an image of its size can have.
+    ManyTiny,
+    /// Entries of 24 bytes, with keys of 16 bytes, of which the first eight are the same; 126 in a span.
     SharedPrefixes,
     /// Spans of two small entries, with the towers that puts make.
     SmallSpans,
@@ -39,9 +41,10 @@ pub enum Filling {
 
 impl Filling {
     /// All fillings.
-    pub const ALL: [Filling; 11] = [
+    pub const ALL: [Filling; 12] = [
         Filling::ManySmall,
         Filling::FullSpans,
+        Filling::ManyTiny,
         Filling::SharedPrefixes,
         Filling::SmallSpans,
         Filling::SingleKeys,
@@ -58,6 +61,7 @@ impl Filling {
         match self {
             Filling::ManySmall => "many small entries",
             Filling::FullSpans => "full spans",
+            Filling::ManyTiny => "many tiny entries",
             Filling::SharedPrefixes => "shared prefixes",
             Filling::SmallSpans => "small spans",
             Filling::SingleKeys => "spans of one key",
@@ -78,13 +82,14 @@ impl Filling {
     /// Entry `place` of the table.
     pub fn entry(self, place: usize) -> Entry {
         let key = match self {
+            Filling::ManyTiny => (place as u32).to_be_bytes()[1..].to_vec(),
             Filling::SharedPrefixes => behind(8, place),
             Filling::LongKeys => behind(16_000, place),
             _ => small_key(place),
         };
         let value = match self {
             Filling::FewLarge => MAX_LENGTH,
-            Filling::LongKeys => 0,
+            Filling::LongKeys | Filling::ManyTiny => 0,
             _ => 4,
         };
         let value = vec![0x5a; value];
@@ -97,6 +102,7 @@ impl Filling {
         match self {
             Filling::ManySmall | Filling::SharedPrefixes | Filling::Free => (128, 126),
             Filling::FullSpans => (126, 126),
+            Filling::ManyTiny => (128, 128),
             Filling::SmallSpans => (4, 2),
             Filling::SingleKeys => (4, 1),
             Filling::FewLarge | Filling::LongKeys => (4, 3),

@@ -9,8 +9,9 @@ use crate::request::{Call, Request};
 const SIZES: [usize; 3] = [8, 256, 4096];
 
 /// The fillings that are checked.
-const FILLINGS: [Filling; 7] = [
+const FILLINGS: [Filling; 8] = [
     Filling::ManySmall,
+    Filling::ManyTiny,
     Filling::SharedPrefixes,
     Filling::FewLarge,
     Filling::LongKeys,
