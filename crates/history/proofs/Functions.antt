@@ -5,12 +5,12 @@ use mathlib.Core.List.{List, [], _∷_}
 use Rattle.blockfile.specs.Calls.{Keeps}
 use Rattle.blockfile.specs.History.{Event, Demand3}
 use Rattle.laws.proofs.Preserves.{demand-three}
-use Rattle.history.specs.Functions.{Made, checked, got, stepped, written, NothingAsked}
+use Rattle.history.specs.Functions.{Made, checked, got, stepped, written, removed, created, NothingAsked}
 use Rattle.history.specs.Runs.{History, ContractsRun}
 
 -- no function has a precondition
 pub nothing-asked : NothingAsked
-nothing-asked = record { check = λ κs a. tt; get = λ κs a. tt; next = λ κs a. tt; put = λ κs a. tt }
+nothing-asked = record { check = λ κs a. tt; get = λ κs a. tt; next = λ κs a. tt; put = λ κs a. tt; remove = λ κs a. tt; create = λ κs a. tt }
 
 -- one call of a run
 abbrev Step : List ℕ → Event → Type 0
@@ -25,6 +25,8 @@ made-step img e (checked c i q) = step-as img _ e _ i q (c .ensures)
 made-step img e (got c i q) = step-as img _ e _ i q (c .ensures)
 made-step img e (stepped c i q) = step-as img _ e _ i q (c .ensures)
 made-step img e (written c i q) = step-as img _ e _ i q (c .ensures)
+made-step img e (removed c i q) = step-as img _ e _ i q (c .ensures)
+made-step img e (created c i q) = step-as img _ e _ i q (c .ensures)
 
 pub contracts-run : ContractsRun
 unfolding ContractsRun

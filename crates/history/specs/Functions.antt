@@ -6,7 +6,7 @@ use contract.Lifetimes.{Lfts}
 use denote.Ref.{now}
 use denote.Triple.Clauses.{AtExit}
 use borrow.Fn.Kinds.{PK, RK, Dens, resT, In, Out, endedOf}
-use Rattle.blockfile.specs.Refusals.{Op, check, get, put, next, Reply}
+use Rattle.blockfile.specs.Refusals.{Op, check, get, put, remove, next, create, Reply}
 use Rattle.blockfile.specs.Calls.{checkedReply, gotReply, wroteReply}
 use Rattle.blockfile.specs.History.{Event}
 use Rattle.store.proofs.check.Kinds as check-kinds
@@ -17,6 +17,10 @@ use Rattle.store.proofs.next.Kinds as next-kinds
 use Rattle.store.proofs.next.Reads as next-reads
 use Rattle.store.proofs.put.Kinds as put-kinds
 use Rattle.store.proofs.put.Reads as put-reads
+use Rattle.store.proofs.remove.Kinds as remove-kinds
+use Rattle.store.proofs.remove.Reads as remove-reads
+use Rattle.store.proofs.create.Kinds as create-kinds
+use Rattle.store.proofs.create.Reads as create-reads
 
 -- a call of a function: its arguments in the order of its signature, its result, the arguments at the end, and what its contract
 -- tells a caller of them. Ensures is made from the clauses in store's source, so a changed contract is a changed claim here
@@ -31,7 +35,7 @@ pub record CallOf {n : ℕ} (params : List (PK n)) (answer : RK n) (Ensures : Ou
 abbrev pub event : Op → (scratch buffer : List ℕ) → Reply → (image scratch′ buffer′ : List ℕ) → Event
 event op s b r img s′ b′ = record { op = op; scratch = s; buffer = b; reply = r; image = img; scratchAfter = s′; bufferAfter = b′ }
 
--- one of the functions was called on this image, with this event. Of the arguments the image is .0, the scratch .1 .0, the name
+-- one of the six functions was called on this image, with this event. Of the arguments the image is .0, the scratch .1 .0, the name
 -- .1 .1 .0, the key .1 .1 .1 .0, and put's value or the answer buffer .1 .1 .1 .1 .0
 pub data Made (img : List ℕ) (e : Event) : Type 0 where
   checked : (c : CallOf check-kinds.ps check-kinds.r check-reads.Learnt) → img ≡ now (c .args .0)
@@ -44,6 +48,12 @@ pub data Made (img : List ℕ) (e : Event) : Type 0 where
       → Made img e
   written : (c : CallOf put-kinds.ps put-kinds.r put-reads.Learnt) → img ≡ now (c .args .0)
       → e ≡ event (put (now (c .args .1 .1 .0)) (now (c .args .1 .1 .1 .0)) (now (c .args .1 .1 .1 .1 .0))) (now (c .args .1 .0)) [] (wroteReply (c .result)) (now (c .last .0)) (now (c .last .1 .0)) []
+      → Made img e
+  removed : (c : CallOf remove-kinds.ps remove-kinds.r remove-reads.Learnt) → img ≡ now (c .args .0)
+      → e ≡ event (remove (now (c .args .1 .1 .0)) (now (c .args .1 .1 .1 .0))) (now (c .args .1 .0)) [] (wroteReply (c .result)) (now (c .last .0)) (now (c .last .1 .0)) []
+      → Made img e
+  created : (c : CallOf create-kinds.ps create-kinds.r create-reads.Learnt) → img ≡ now (c .args .0)
+      → e ≡ event (create (now (c .args .1 .1 .0))) (now (c .args .1 .0)) [] (wroteReply (c .result)) (now (c .last .0)) (now (c .last .1 .0)) []
       → Made img e
 
 -- calls of the functions one after another, each on the image that the one before left
@@ -61,3 +71,5 @@ pub record NothingAsked : Type 0 where
   pub get : AsksNothing get-kinds.ps get-reads.Asked
   pub next : AsksNothing next-kinds.ps next-reads.Asked
   pub put : AsksNothing put-kinds.ps put-reads.Asked
+  pub remove : AsksNothing remove-kinds.ps remove-reads.Asked
+  pub create : AsksNothing create-kinds.ps create-reads.Asked
