@@ -1,6 +1,7 @@
 pub mod Sorts
 pub mod Rules
 pub mod Runs
+pub mod Charts
 pub mod Bridge
 pub mod PageClaims
 pub mod Readings

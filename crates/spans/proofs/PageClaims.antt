@@ -1,6 +1,7 @@
 -- The ways through `claim_conts` and `claim_span`.
-use Prim.Native.Nat.{ℕ, suc, _+_, _*_, _≤_}
+use Prim.Native.Nat.{ℕ, suc, _+_, _*_, _≤_, _<_}
 use native.Mathlib.Omega.{arith}
+use native.Mathlib.Numerals.{add-one}
 use mathlib.Core.Path.{_≡_, refl, ap, sym, _∙_, subst}
 use mathlib.Core.Bool.{Bool, true, false, true≢false}
 use mathlib.Core.List.{List, [], _∷_, map}
@@ -13,11 +14,13 @@ use Rattle.pages.specs.Places.{Inside}
 use Rattle.pages.specs.Claims.{Lent, Claimed, claimed}
 use Rattle.pages.proofs.Marks.{begins-take, take-begins}
 use Rattle.walks.specs.Found.{Open, Fresh, claims, zeros, FindsAt}
-use Rattle.walks.proofs.Founds.{length-claimed, zeros-claimed, claimable-open, open-claimable, SameAt, same-start, same-turn, finds-none, finds-done}
+use Rattle.walks.proofs.Founds.{length-claimed, zeros-claimed, zeros-most, claimable-open, open-claimable, SameAt, same-start, same-turn, finds-none, finds-done}
 use Rattle.entries.specs.Places.{IsPage}
 use Rattle.spans.specs.declared.claims.Claims.{Claims}
 use Rattle.spans.specs.declared.claims.Claims.the-variants.{Refused, Held}
-use Rattle.spans.specs.Parts.{held, ContsFound, PagesFound}
+use Rattle.spans.specs.Charts.{along, Charted, Noted}
+use Rattle.spans.specs.Parts.{held, ContsFound, PagesFound, ContsClaimed, PagesClaimed}
+use Rattle.spans.proofs.Charts.{charted-none, charted-next}
 
 -- ---- a claim
 
@@ -134,16 +137,52 @@ module _ {img scr₀ : List ℕ} {start : ℕ} {scr : List ℕ} {p n : ℕ} (w :
           same = rw is (same-turn (conts-more img scr p n z c e) (w .same));
         }
 
+-- the loop, with what it has noted in the chart
+pub record Noting (img scr₀ : List ℕ) (start : ℕ) (scr chart : List ℕ) (p n : ℕ) : Type 0 where
+  pub claiming : Claiming img scr₀ start scr p n
+  pub charted : Charted img start n chart
+  pub on : p ≡ along img start n
+
+pub noting-start : (img scr chart : List ℕ) (start : ℕ) → length chart ≡ 256 → Noting img scr start scr chart start 0
+noting-start img scr chart start l = record { claiming = claiming-start img scr start; charted = charted-none img start chart l; on = refl }
+
+module _ {img scr₀ : List ℕ} {start : ℕ} {scr chart : List ℕ} {p n : ℕ} (w : Noting img scr₀ start scr chart p n) where
+  pub noting-end : p ≡ 0 → ContsClaimed img scr₀ start (Held n) scr chart
+  noting-end e = record { found = claiming-end (w .claiming) e; charted = λ m q. let i : n ≡ m = held-one n m q in subst (λ (k : ℕ). Charted img start k chart) i (w .charted) }
+
+  module _ (z : p ≡ 0 → ⊥) {r : Bool} {out : List ℕ} (c : Claimed img scr p 4 r out) where
+    pub noting-no : r ≡ false → ContsClaimed img scr₀ start Refused out chart
+    noting-no e = record { found = claiming-no (w .claiming) z c e; charted = λ m q. absurd (let x : _≡_ {A = ℕ} 0 1 = cc in omega arith) }
+
+    module _ (e : r ≡ true) where
+      -- what noting the page asks
+      pub noting-few : Lent img scr₀ → (n < 4096) × (p ≤ 4096)
+      noting-few h = (
+        omega (arith, h .most, zeros-most scr₀, w .claiming .few, claim-falls c e),
+        omega (arith, h .most, w .claiming .kept, claim-open c e .high),
+      )
+
+      pub noting-next : {new : List ℕ} → Noted chart n p new → (next : ℕ) → next ≡ be32 (pg img p) 4 → Noting img scr₀ start out new next (n + 1)
+      noting-next m next is =
+          record {
+            claiming = claiming-next (w .claiming) z c e next is;
+            charted = charted-next (w .charted) (w .on) m;
+            on = is ∙ ap (λ (q : ℕ). be32 (pg img q) 4) (w .on) ∙ ap (along img start) (sym (add-one n));
+          }
+
 -- ---- the pages of a span
 
 module _ {img scr : List ℕ} {p : ℕ} {r : Bool} {mid : List ℕ} (c : Claimed img scr p 3 r mid) where
-  pub pages-no : r ≡ false → FindsAt held (PagesFound img scr p) Refused mid
-  pages-no e =
+  pages-none : r ≡ false → FindsAt held (PagesFound img scr p) Refused mid
+  pages-none e =
       finds-none held Refused mid (same-start (PagesFound img scr p)) (λ a q. let x : _≡_ {A = ℕ} 0 1 = cc in omega arith)
       (λ m t x. claim-not c e (x .fresh .0) (begins-span (pg img p) (x .marked)))
 
-  pub pages-then : r ≡ true → (first : ℕ) → first ≡ be32 (pg img p) 4 → {a : Claims} {out : List ℕ} → FindsAt held (ContsFound img mid first 0) a out → FindsAt held (PagesFound img scr p) a out
-  pages-then e first is {a} {out} f =
+  pub pages-no : {chart : List ℕ} → r ≡ false → PagesClaimed img scr p Refused mid chart
+  pages-no e = record { found = pages-none e; charted = λ m q. absurd (let x : _≡_ {A = ℕ} 0 1 = cc in omega arith) }
+
+  pages-all : r ≡ true → (first : ℕ) → first ≡ be32 (pg img p) 4 → {a : Claims} {out : List ℕ} → FindsAt held (ContsFound img mid first 0) a out → FindsAt held (PagesFound img scr p) a out
+  pages-all e first is {a} {out} f =
       let left : mid ≡ claimed scr p = claim-left c e in
       record {
         sound = λ m q.
@@ -166,6 +205,10 @@ module _ {img scr : List ℕ} {p : ℕ} {r : Bool} {mid : List ℕ} (c : Claimed
           left = x .left ∙ ap (λ (s : List ℕ). claims s (x .conts)) (sym left);
         });
       }
+
+  pub pages-then : r ≡ true → (first : ℕ) → first ≡ be32 (pg img p) 4 → {a : Claims} {out chart : List ℕ} → ContsClaimed img mid first a out chart → PagesClaimed img scr p a out chart
+  pages-then e first is {chart = chart} f =
+      record { found = pages-all e first is (f .found); charted = λ m q. subst (λ (n : ℕ). Charted img n m chart) is (f .charted m q) }
 
 -- ---- claimed pages are pages of the image, and no more than there are
 

@@ -1,14 +1,17 @@
 -- The ways through `read_span`.
-use Prim.Native.Nat.{ℕ, zero, suc, _+_, _*_, _/_, _≤_, _<_}
+use Prim.Native.Nat.{ℕ, zero, suc, _+_, _*_, _-_, _/_, _≤_, _<_}
 use native.Mathlib.Omega.{arith}
 use mathlib.Core.Path.{_≡_, refl, ap, sym, _∙_, subst}
-use mathlib.Core.List.{List, _∷_}
+use mathlib.Core.List.{List, [], _∷_, map}
 use lib.ListN.{length, drop, length-drop}
-use Rattle.blockfile.specs.Bytes.{pg, be16, be32}
+use lib.Seq.{drop-drop, drop-at}
+use Rattle.blockfile.specs.Bytes.{pg, be16, be32, Every, firstOf}
 use Rattle.blockfile.specs.Layout.{Entry, entriesEnd, reached}
+use Rattle.blockfile.specs.Fields.{AreConts}
+use Rattle.laws.proofs.Pages.{length-pg}
 use Rattle.pages.specs.Places.{Number}
 use Rattle.entries.specs.declared.place.Place.{Place}
-use Rattle.entries.specs.Places.{streamOf, Rest}
+use Rattle.entries.specs.Places.{IsPage, streamOf, Rest}
 use Rattle.entries.proofs.Rests.{length-stream, conts-one, rest-in}
 use Rattle.entries.proofs.Keys.{key-one}
 use Rattle.spans.specs.declared.Rule.{Rule}
@@ -18,6 +21,7 @@ use Rattle.spans.specs.declared.entry.Entered.the-variants.{Bad, Read}
 use Rattle.spans.specs.declared.span.Spanned.{Spanned}
 use Rattle.spans.specs.declared.span.Spanned.the-variants.{Wrong, Right}
 use Rattle.spans.specs.Entries.{lastKey, taken, keyOf, Run, LastIs, Ready, Ended, Ends, Entering}
+use Rattle.spans.specs.Charts.{Charted, Spread}
 use Rattle.spans.specs.Parts.{spanOn, SpanIs, ReadySpan, SpanSays, Reading}
 use Rattle.spans.proofs.Bridge.{Listed, run-listed, listed-run}
 
@@ -57,6 +61,37 @@ module _ {img : List ℕ} {p more : ℕ} {l : Last} (r : ReadySpan img p more l)
 
   pub span-ready : Ready img (record { page = p; offset = 20 }) (1004 + 1016 * more) l
   span-ready = record { bytes = drop 12 st; rest = from-20; long = rw length-drop (omega (arith, whole, r .long)); low = r .low; key = r .key }
+
+  -- the first continuation page
+  from-first : (cs : List ℕ) → be32 (pg img p) 4 ≡ firstOf cs → AreConts cs (map (pg img) cs) → Every (IsPage img) cs → 0 < length cs
+      → Rest img (record { page = be32 (pg img p) 4; offset = 8 }) (streamOf img cs)
+  from-first [] e a h some = absurd (omega arith)
+  from-first (q ∷ cs) e a h some =
+      subst (λ (n : ℕ). Rest img (record { page = n; offset = 8 }) (streamOf img (q ∷ cs))) (sym e)
+      (record { small = r .pages .small; page = h .0; low = omega arith; high = omega arith; more = cs; linked = a .1; conts = a .2; inside = h .1; is = refl })
+
+  pub span-spread : {chart : List ℕ} → Charted img (be32 (pg img p) 4) more chart → Spread img chart more (record { page = p; offset = 20 }) (1004 + 1016 * more)
+  span-spread {chart} c =
+      let tail : List ℕ = streamOf img (r .conts) in
+      let size : length tail ≡ 1016 * length (r .conts) = length-stream img (r .conts) (r .pages .inside) in
+      let start : length (drop 8 (pg img p)) ≡ 1016 = simp (length-drop, length-pg img p (r .pages .page .low) (r .pages .page .high)) in
+      let long : length (drop 12 st) ≡ 1004 + 1016 * length (r .conts) = rw length-drop (omega (arith, whole)) in
+      record {
+        bytes = drop 12 st;
+        rest = from-20;
+        long = omega (arith, long, r .long);
+        first = be32 (pg img p) 4;
+        tail = tail;
+        from = λ some. from-first (r .conts) (r .pages .linked) (r .pages .are) (r .pages .inside) (omega (arith, r .long));
+        all = omega (arith, size, r .long);
+        few = r .few;
+        most = omega arith;
+        ends = λ j a b.
+            let sum : 12 + (length (drop 12 st) - j) ≡ 1016 + (length tail - j) = omega (arith, long, size) in
+            drop-drop (length (drop 12 st) - j) 12 st ∙ ap (λ (n : ℕ). drop n st) sum ∙ sym (drop-drop (length tail - j) 1016 st)
+            ∙ ap (drop (length tail - j)) (drop-at (drop 8 (pg img p)) tail 1016 start);
+        charted = c;
+      }
 
   module _ (rule : Rule) (prev z : ℕ) where
     -- what is shown of these continuation pages and this last key is shown of all

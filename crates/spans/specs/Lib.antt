@@ -1,3 +1,4 @@
 pub mod Spans
 pub mod Entries
+pub mod Charts
 pub mod Parts

@@ -20,6 +20,7 @@ use Rattle.spans.specs.declared.span.Spanned.the-variants.{Wrong, Right}
 use Rattle.spans.specs.declared.Counted.{Counted}
 use Rattle.spans.specs.Spans.{entriesIn, Counts, whole}
 use Rattle.spans.specs.Entries.{fits, Above, lastKey, LastIs}
+use Rattle.spans.specs.Charts.{Charted}
 
 -- ---- The pages of a span
 
@@ -44,6 +45,16 @@ pub record PagesFound (img scr : List ℕ) (p m : ℕ) (s : List ℕ) : Type 0 w
   pub fresh : Fresh scr (p ∷ conts)
   pub long : m ≡ length conts
   pub left : s ≡ claims scr (p ∷ conts)
+
+-- the continuation pages from p on are claimed, and those that were are in the chart
+pub record ContsClaimed (img scr : List ℕ) (p : ℕ) (r : Claims) (s chart : List ℕ) : Type 0 where
+  pub found : FindsAt held (ContsFound img scr p 0) r s
+  pub charted : (m : ℕ) → r ≡ Held m → Charted img p m chart
+
+-- the pages of the span on page p are claimed
+pub record PagesClaimed (img scr : List ℕ) (p : ℕ) (r : Claims) (s chart : List ℕ) : Type 0 where
+  pub found : FindsAt held (PagesFound img scr p) r s
+  pub charted : (m : ℕ) → r ≡ Held m → Charted img (be32 (pg img p) 4) m chart
 
 -- ---- The bytes of a span
 

@@ -1,7 +1,8 @@
 // The entries of a span: lengths that fit, keys that rise, keys and values as the table's rule has them.
 ghost use Prim.Native.Nat.{_≤_};
 ghost use Rattle.entries.specs.Keys.{Key};
-ghost use Rattle.entries.specs.Places.{Measured};
+ghost use Rattle.entries.specs.Places.{Moved, Measured};
+ghost use Rattle.spans.specs.Charts.{Spread};
 ghost use Rattle.spans.specs.Entries.{Met, IsAbove, Allowed, Whole, Ready, Entering, Tries, Skims};
 use crate::Rule;
 use entries::key::Order;
@@ -76,9 +77,33 @@ fn above(image: &[u8], last: Last, at: Place, key: usize) -> bool
     }
 }
 
-// Reads the entry that follows; `left` bytes are left up to the end of the span's pages.
-fn verify_entry(image: &[u8], at: Place, left: usize, last: Last, rule: Rule) -> Entered
-    requires { ⌜ Ready (now image) at left last ⌝ }
+// The place n bytes on. `left` bytes are left from here on up to the end of the span's pages, of which `more` are continuation
+// pages. Where many are passed, the chart has one that is near.
+fn leap(image: &[u8], chart: &[u16], more: usize, at: Place, left: usize, n: usize) -> Place
+    requires { ⌜ Spread (now image) (now chart) more at left × (n ≤ left) ⌝ }
+    ensures { λ r. ⌜ Moved (now (image .entry)) at n r ⌝ }
+{
+    if n <= 16256 {
+        return forward(image, at, n);
+    }
+    let passed = 1016 * more - (left - n);
+    let i = (passed - 1) / 16256;
+    let page = chart[i] as usize;
+    let from = Place { page, offset: 8 };
+    forward(image, from, passed - 16256 * i)
+}
+
+// Reads the entry that follows; `left` bytes are left up to the end of the span's pages, of which `more` are continuation pages.
+fn verify_entry(
+    image: &[u8],
+    chart: &[u16],
+    more: usize,
+    at: Place,
+    left: usize,
+    last: Last,
+    rule: Rule,
+) -> Entered
+    requires { ⌜ Ready (now image) at left last × Spread (now image) (now chart) more at left ⌝ }
     ensures { λ r. ⌜ Entering rule (now (image .entry)) at last 1 r ⌝ }
 {
     let offset = at.offset;
@@ -100,7 +125,7 @@ fn verify_entry(image: &[u8], at: Place, left: usize, last: Last, rule: Rule) ->
     if !allowed(image, start, key, value, rule) {
         return Entered::Bad;
     }
-    let after = forward(image, start, both);
+    let after = leap(image, chart, more, start, left - skipped - 4, both);
     let prefix = prefix_most(image, start, key);
     Entered::Read(
         after,
@@ -182,13 +207,15 @@ fn skim(image: &[u8], at: Place, left: usize, size: usize, last: Last, rule: Rul
 // Reads `size` entries.
 pub fn verify_entries(
     image: &[u8],
+    chart: &[u16],
+    more: usize,
     at: Place,
     left: usize,
     size: usize,
     last: Last,
     rule: Rule,
 ) -> Entered
-    requires { ⌜ Ready (now image) at left last ⌝ }
+    requires { ⌜ Ready (now image) at left last × Spread (now image) (now chart) more at left ⌝ }
     ensures { λ r. ⌜ Entering rule (now (image .entry)) at last size r ⌝ }
 {
     let mut here = at;
@@ -203,7 +230,7 @@ pub fn verify_entries(
         if size - i <= n {
             return Entered::Read(p, s.left, k);
         }
-        let Entered::Read(q, m, h) = verify_entry(image, p, s.left, k, rule) else {
+        let Entered::Read(q, m, h) = verify_entry(image, chart, more, p, s.left, k, rule) else {
             return Entered::Bad;
         };
         here = q;

@@ -3,7 +3,9 @@ pub mod claims;
 pub mod entry;
 pub mod span;
 
+ghost use mathlib.Core.Path.{_≡_};
 ghost use Prim.Native.Nat.{_≤_};
+ghost use lib.ListN.{length};
 ghost use Rattle.pages.specs.Claims.{Lent};
 ghost use Rattle.walks.specs.Found.{FindsAt};
 ghost use Rattle.spans.specs.Spans.{whole, SpansFound};
@@ -31,6 +33,7 @@ pub enum Counted {
 fn verify_others(
     image: &[u8],
     scratch: &mut [u8],
+    chart: &mut [u16],
     start: usize,
     before: usize,
     most: usize,
@@ -38,7 +41,7 @@ fn verify_others(
     count: usize,
     rule: Rule,
 ) -> Counted
-    requires { ⌜ Lent (now image) (now scratch) × Met (now image) last × (most ≤ 128) × (count ≤ 128) ⌝ }
+    requires { ⌜ Lent (now image) (now scratch) × (length (now chart) ≡ 256) × Met (now image) last × (most ≤ 128) × (count ≤ 128) ⌝ }
     ensures { λ r. ⌜ RestCounted rule (now (image .entry)) (now (scratch .entry)) most start before last count r (now (scratch .exit)) ⌝ }
 {
     let mut page = start;
@@ -50,6 +53,7 @@ fn verify_others(
         let Spanned::Right(n, next, k) = verify_span(
             image,
             scratch,
+            chart,
             page,
             previous,
             most,
@@ -87,9 +91,18 @@ pub fn verify_spans(
         length: 0,
         prefix: 0,
     };
-    let Spanned::Right(n, next, key) = verify_span(image, scratch, start, 0, most, none, rule)
-    else {
+    let mut chart = [0u16; 256];
+    let Spanned::Right(n, next, key) = verify_span(
+        image,
+        scratch,
+        &mut chart,
+        start,
+        0,
+        most,
+        none,
+        rule,
+    ) else {
         return Counted::Broken;
     };
-    verify_others(image, scratch, next, start, most, key, n, rule)
+    verify_others(image, scratch, &mut chart, next, start, most, key, n, rule)
 }

@@ -1,5 +1,9 @@
 // One span: its pages, its fields, its entries.
+ghost use mathlib.Core.Path.{_≡_};
+ghost use lib.ListN.{length};
+ghost use Rattle.blockfile.specs.Bytes.{pg, be32};
 ghost use Rattle.pages.specs.Claims.{Lent};
+ghost use Rattle.spans.specs.Charts.{Charted};
 ghost use Rattle.spans.specs.Entries.{Met};
 ghost use Rattle.spans.specs.Parts.{ReadySpan, Reading, VerifiedAll};
 use crate::Rule;
@@ -22,6 +26,7 @@ pub enum Spanned {
 // bytes than a page holds are left after the entries.
 fn read_span(
     image: &[u8],
+    chart: &[u16],
     page: usize,
     more: usize,
     previous: usize,
@@ -29,7 +34,7 @@ fn read_span(
     last: Last,
     rule: Rule,
 ) -> Spanned
-    requires { ⌜ ReadySpan (now image) page more last ⌝ }
+    requires { ⌜ ReadySpan (now image) page more last × Charted (now image) (be32 (pg (now image) page) 4) more (now chart) ⌝ }
     ensures { λ r. ⌜ Reading rule (now (image .entry)) page previous most last r ⌝ }
 {
     if get32(image, page, 8) != previous {
@@ -45,6 +50,8 @@ fn read_span(
     let start = Place { page, offset: 20 };
     let Entered::Read(_, left, key) = verify_entries(
         image,
+        chart,
+        more,
         start,
         1004 + 1016 * more,
         size,
@@ -60,21 +67,23 @@ fn read_span(
     Spanned::Right(size, next, key)
 }
 
-// Claims and reads the span on `page`; `previous` is the page of the span before it, or 0, and `last` the last key met.
+// Claims and reads the span on `page`; `previous` is the page of the span before it, or 0, and `last` the last key met. The chart
+// may hold anything: it is lent, since making one takes as long as reading some entries.
 pub fn verify_span(
     image: &[u8],
     scratch: &mut [u8],
+    chart: &mut [u16],
     page: usize,
     previous: usize,
     most: usize,
     last: Last,
     rule: Rule,
 ) -> Spanned
-    requires { ⌜ Lent (now image) (now scratch) × Met (now image) last ⌝ }
+    requires { ⌜ Lent (now image) (now scratch) × (length (now chart) ≡ 256) × Met (now image) last ⌝ }
     ensures { λ r. ⌜ VerifiedAll rule (now (image .entry)) (now (scratch .entry)) page previous most last r (now (scratch .exit)) ⌝ }
 {
-    let Claims::Held(more) = claim_span(image, scratch, page) else {
+    let Claims::Held(more) = claim_span(image, scratch, chart, page) else {
         return Spanned::Wrong;
     };
-    read_span(image, page, more, previous, most, last, rule)
+    read_span(image, chart, page, more, previous, most, last, rule)
 }

@@ -1,20 +1,23 @@
 -- `spans::entry::verify_entries` meets its contract: entries read by their prefixes, then the one that was left.
 use Prim.Native.Nat.{_-_, _≤_}
 use native.Mathlib.Omega.{arith}
-use mathlib.Core.Path.{refl}
+use mathlib.Core.Path.{refl, subst}
 use borrow.Author.Needs.{needs}
+use Rattle.spans.specs.Entries.{Entering}
+use Rattle.spans.specs.Charts.{Spread}
+use Rattle.spans.proofs.Charts.{spread-entered}
 use Rattle.spans.proofs.Runs.{Walking, walking-start, walking-ready, walking-end, walking-no, walking-more}
 use Rattle.spans.proofs.entry.verify_entries.Statement.{statement}
 use Rattle.spans.proofs.entry.verify_entries.Tie as tie
 
 abbrev Inv-loop : tie.InvT-loop
-Inv-loop image left size rule here₀ rest₀ key₀ i₀ here rest key i = Walking rule image here₀ key₀ here rest key i × (i ≤ size)
+Inv-loop image chart more left size rule here₀ rest₀ key₀ i₀ here rest key i = Walking rule image here₀ key₀ here rest key i × (i ≤ size) × Spread image chart more here rest
 
 abbrev μ-loop : tie.MeasureT-loop
-μ-loop image left size rule here₀ rest₀ key₀ i₀ here rest key i = size - i
+μ-loop image chart more left size rule here₀ rest₀ key₀ i₀ here rest key i = size - i
 
 loop-holds : tie.Need-loop-holds Inv-loop μ-loop
-loop-holds c = (walking-start _ (c .before .pre), omega arith)
+loop-holds c = let p = c .before .before .pre in (walking-start _ (p .0), omega arith, p .1)
 
 skim-requires : tie.Need-skim-requires Inv-loop μ-loop
 skim-requires c κs = walking-ready (c .before .loop .inv .0)
@@ -28,7 +31,8 @@ returns c =
 verify-entry-requires : tie.Need-verify-entry-requires Inv-loop μ-loop
 verify-entry-requires c κs =
     let s = c .before .before .before in
-    walking-ready (walking-more (s .before .before .loop .inv .0) (s .skim .ensures .read) refl refl)
+    let v = s .before .before .loop .inv in
+    (walking-ready (walking-more (v .0) (s .skim .ensures .read) refl refl), spread-entered (v .2) (walking-ready (v .0) .key) (s .skim .ensures .read))
 
 returns-2 : tie.Need-returns-2 Inv-loop μ-loop
 returns-2 c =
@@ -42,7 +46,12 @@ loop-again c =
     let e = c .before .before .before in
     let s = e .before .before .before .before in
     let v = s .before .before .loop .inv in
-    (walking-more (walking-more (v .0) (s .skim .ensures .read) refl refl) (e .verify-entry .ensures) (c .before .q .given .1) (omega arith), omega (arith, e .before .if1 .left, v .1))
+    let w = walking-more (v .0) (s .skim .ensures .read) refl refl in (
+      walking-more w (e .verify-entry .ensures) (c .before .q .given .1) (omega arith),
+      omega (arith, e .before .if1 .left, v .1),
+      spread-entered (spread-entered (v .2) (walking-ready (v .0) .key) (s .skim .ensures .read)) (walking-ready w .key)
+          (subst (Entering _ _ _ _ 1) (c .before .q .given .1) (e .verify-entry .ensures)),
+    )
 
 returns-3 : tie.Need-returns-3 Inv-loop μ-loop
 returns-3 c = let v = c .before .loop .inv in walking-end (v .0) (omega (arith, c .loop-test .left, v .1))
@@ -62,8 +71,8 @@ verify-entries-spec =
     (λ c. search needs)
     (λ c. search needs)
     returns-2
-    (λ c. let e = c .before .before .before .before in let l = e .before .before .before .before .before in omega (arith, e .if1 .left, l .before .before .fits))
-    (λ c. let e = c .before .before .before .before in let l = e .before .before .before .before .before in omega (arith, e .if1 .left, l .before .before .fits, l .loop .inv .1))
+    (λ c. let e = c .before .before .before .before in let l = e .before .before .before .before .before in omega (arith, e .if1 .left, l .before .before .before .fits))
+    (λ c. let e = c .before .before .before .before in let l = e .before .before .before .before .before in omega (arith, e .if1 .left, l .before .before .before .fits, l .loop .inv .1))
     (λ c. omega (arith, c .before .before .before .before .if1 .left))
     loop-again
     returns-3)

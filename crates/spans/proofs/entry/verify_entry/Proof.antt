@@ -4,69 +4,71 @@ use mathlib.Core.Path.{refl}
 use borrow.Author.Needs.{needs}
 use borrow.Author.Tests.{not-true, not-false}
 use Rattle.entries.proofs.Places.{gap-most}
-use Rattle.spans.proofs.Runs.{entry-short, entry-enough, entry-over, entry-keys, entry-not, entry-some, entry-barred, entry-forward, entry-done}
+use Rattle.spans.proofs.Runs.{entry-short, entry-enough, entry-over, entry-keys, entry-not, entry-some, entry-barred, entry-done}
+use Rattle.spans.proofs.Charts.{spread-on}
 use Rattle.spans.proofs.entry.verify_entry.Statement.{statement}
 use Rattle.spans.proofs.entry.verify_entry.Tie as tie
 
 add-if1 : tie.Need-add-if1
-add-if1 c = omega (arith, c .gap .ensures, gap-most (c .before .before .args .at .offset) 4)
+add-if1 c = omega (arith, c .gap .ensures, gap-most (c .before .before .before .args .at .offset) 4)
 
 returns : tie.Need-returns
-returns c = entry-short (c .before .before .before .pre) (c .before .gap .ensures) (c .if1 .taken)
+returns c = entry-short (c .before .before .before .before .pre .0) (c .before .gap .ensures) (c .if1 .taken)
 
 lengths-requires : tie.Need-lengths-requires
-lengths-requires c κs = entry-enough (c .before .before .before .pre) (c .before .gap .ensures) (c .if1 .left)
+lengths-requires c κs = entry-enough (c .before .before .before .before .pre .0) (c .before .gap .ensures) (c .if1 .left)
 
 returns-2 : tie.Need-returns-2
 returns-2 c =
     let d = c .before .before .before in
-    entry-over (d .before .before .before .pre) (d .before .gap .ensures) (c .before .before .lengths .ensures) (d .if1 .left) (c .if2 .taken)
+    entry-over (d .before .before .before .before .pre .0) (d .before .gap .ensures) (c .before .before .lengths .ensures) (d .if1 .left) (c .if2 .taken)
 
 above-requires : tie.Need-above-requires
 above-requires c κs =
     let d = c .before .before .before in
-    entry-keys (d .before .before .before .pre) (d .before .gap .ensures) (c .before .before .lengths .ensures) (d .if1 .left) (c .if2 .left)
+    entry-keys (d .before .before .before .before .pre .0) (d .before .gap .ensures) (c .before .before .lengths .ensures) (d .if1 .left) (c .if2 .left)
 
 returns-3 : tie.Need-returns-3
 returns-3 c =
     let e = c .before .before in
     let d = e .before .before .before in
-    entry-not (d .before .before .before .pre) (d .before .gap .ensures) (e .before .before .lengths .ensures) (d .if1 .left) (e .if2 .left) (c .before .above .ensures) (not-true _ (c .if3 .taken))
+    entry-not (d .before .before .before .before .pre .0) (d .before .gap .ensures) (e .before .before .lengths .ensures) (d .if1 .left) (e .if2 .left) (c .before .above .ensures) (not-true _ (c .if3 .taken))
 
 allowed-requires : tie.Need-allowed-requires
 allowed-requires c κs =
     let e = c .before .before in
     let d = e .before .before .before in
-    let some = entry-some (d .before .before .before .pre) (d .before .gap .ensures) (e .before .before .lengths .ensures) (d .if1 .left) (e .if2 .left) (c .before .above .ensures) (not-false _ (c .if3 .left)) in
-    (entry-keys (d .before .before .before .pre) (d .before .gap .ensures) (e .before .before .lengths .ensures) (d .if1 .left) (e .if2 .left) .1, some, omega arith, omega arith)
+    let some = entry-some (d .before .before .before .before .pre .0) (d .before .gap .ensures) (e .before .before .lengths .ensures) (d .if1 .left) (e .if2 .left) (c .before .above .ensures) (not-false _ (c .if3 .left)) in
+    (entry-keys (d .before .before .before .before .pre .0) (d .before .gap .ensures) (e .before .before .lengths .ensures) (d .if1 .left) (e .if2 .left) .1, some, omega arith, omega arith)
 
 returns-4 : tie.Need-returns-4
 returns-4 c =
     let e = c .before .before .before .before in
     let d = e .before .before .before in
-    entry-barred (d .before .before .before .pre) (d .before .gap .ensures) (e .before .before .lengths .ensures) (d .if1 .left) (e .if2 .left) (c .before .before .before .above .ensures) (not-false _ (c .before .before .if3 .left)) (c .before .allowed .ensures)
+    entry-barred (d .before .before .before .before .pre .0) (d .before .gap .ensures) (e .before .before .lengths .ensures) (d .if1 .left) (e .if2 .left) (c .before .before .before .above .ensures) (not-false _ (c .before .before .if3 .left)) (c .before .allowed .ensures)
     (not-true _ (c .if4 .taken))
 
-forward-requires : tie.Need-forward-requires
-forward-requires c κs =
+leap-requires : tie.Need-leap-requires
+leap-requires c κs =
     let e = c .before .before .before .before in
     let d = e .before .before .before in
-    entry-forward (d .before .before .before .pre) (d .before .gap .ensures) (e .before .before .lengths .ensures) (d .if1 .left) (e .if2 .left)
+    let g = d .before .gap .ensures in
+    (spread-on (d .before .before .before .before .pre .1) (omega (arith, g, d .if1 .left)) (e .before .before .lengths .ensures .moved) (omega (arith, g)), omega (arith, e .if2 .left))
 
 prefix-most-requires : tie.Need-prefix-most-requires
 prefix-most-requires c κs =
     let e = c .before .before .before .before .before in
     let d = e .before .before .before in
-    let some = entry-some (d .before .before .before .pre) (d .before .gap .ensures) (e .before .before .lengths .ensures) (d .if1 .left) (e .if2 .left) (c .before .before .before .before .above .ensures) (not-false _ (c .before .before .before .if3 .left)) in
-    (entry-keys (d .before .before .before .pre) (d .before .gap .ensures) (e .before .before .lengths .ensures) (d .if1 .left) (e .if2 .left) .1, some)
+    let some = entry-some (d .before .before .before .before .pre .0) (d .before .gap .ensures) (e .before .before .lengths .ensures) (d .if1 .left) (e .if2 .left) (c .before .before .before .before .above .ensures) (not-false _ (c .before .before .before .if3 .left)) in
+    (entry-keys (d .before .before .before .before .pre .0) (d .before .gap .ensures) (e .before .before .lengths .ensures) (d .if1 .left) (e .if2 .left) .1, some)
 
 returns-5 : tie.Need-returns-5
 returns-5 c =
     let f = c .before in
     let e = f .before .before .before .before .before in
     let d = e .before .before .before in
-    entry-done (d .before .before .before .pre) (d .before .gap .ensures) (e .before .before .lengths .ensures) (d .if1 .left) (e .if2 .left) (f .before .before .before .before .above .ensures) (not-false _ (f .before .before .before .if3 .left)) (f .before .before .allowed .ensures)
-    (not-false _ (f .before .if4 .left)) (f .forward .ensures) (c .prefix-most .ensures) refl
+    entry-done (d .before .before .before .before .pre .0) (d .before .gap .ensures) (e .before .before .lengths .ensures) (d .if1 .left) (e .if2 .left) (f .before .before .before .before .above .ensures) (not-false _ (f .before .before .before .if3 .left)) (f .before .before .allowed .ensures)
+    (not-false _ (f .before .if4 .left)) (f .leap .ensures) (c .prefix-most .ensures) refl
 
 pub verify-entry-spec : {M : Type 1} → statement M
 verify-entry-spec =
@@ -84,7 +86,9 @@ verify-entry-spec =
     returns-3
     allowed-requires
     returns-4
-    forward-requires
+    (λ c. search needs)
+    (λ c. search needs)
+    leap-requires
     prefix-most-requires
     (λ c. search needs)
     (λ c. search needs)
