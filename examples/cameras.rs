@@ -31,6 +31,7 @@ struct Card {
     scratch: Vec<u8>,
 }
 
+#[rustfmt::skip]
 impl Card {
     fn check(&mut self) -> Answer {
         unsafe { calstore_check(self.image.as_ptr(), self.image.len(), self.scratch.as_mut_ptr(), self.scratch.len()) }
@@ -72,13 +73,26 @@ fn main() {
     let mut card = Card { image, scratch };
 
     println!("create lens: {}", card.create(b"lens").number);
-    println!("put cam1: {}", card.put(b"lens", b"cam1", b"f=1050 k1=-0.11").number);
-    println!("put cam2: {}", card.put(b"lens", b"cam2", b"f=985 k1=-0.09").number);
+    println!(
+        "put cam1: {}",
+        card.put(b"lens", b"cam1", b"f=1050 k1=-0.11").number
+    );
+    println!(
+        "put cam2: {}",
+        card.put(b"lens", b"cam2", b"f=985 k1=-0.09").number
+    );
 
     let mut record = vec![0; 65535];
     let a = card.get(b"lens", b"cam2", &mut record);
-    println!("get cam2: {} {}", a.number, String::from_utf8_lossy(&record[..a.length as usize]));
-    println!("get cam3: {}", card.get(b"lens", b"cam3", &mut record).number);
+    println!(
+        "get cam2: {} {}",
+        a.number,
+        String::from_utf8_lossy(&record[..a.length as usize])
+    );
+    println!(
+        "get cam3: {}",
+        card.get(b"lens", b"cam3", &mut record).number
+    );
 
     // the keys in their order: each is asked for with the one before, the first with the empty key
     let mut key = Vec::new();
@@ -94,5 +108,8 @@ fn main() {
     println!("remove cam1: {}", card.remove(b"lens", b"cam1").number);
     let a = card.check();
     assert_eq!(a.page, 0);
-    println!("check: {} pages {} tables {} keys {} free {}", a.number, a.pages, a.tables, a.keys, a.free);
+    println!(
+        "check: {} pages {} tables {} keys {} free {}",
+        a.number, a.pages, a.tables, a.keys, a.free
+    );
 }
