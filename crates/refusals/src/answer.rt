@@ -6,7 +6,7 @@ ghost use Rattle.search.specs.Spans.{Answered};
 ghost use Rattle.refusals.specs.Answer.{Hands};
 use blockfile::Got;
 use blockfile::Refusal;
-use entries::copy::copy;
+use reader::copy_from;
 use search::span::Sought;
 
 // Copies the bytes found to the start of the answer buffer.
@@ -20,6 +20,6 @@ pub fn hand_over(image: &[u8], found: Sought, answer: &mut [u8]) -> Got
     if answer.len() < n {
         return Got::Refused(Refusal::BufferShort(n));
     }
-    copy(image, at, n, answer);
+    copy_from(image, at, n, answer);
     Got::Found(n)
 }

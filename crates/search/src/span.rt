@@ -4,9 +4,9 @@ use entries::key::Order;
 use entries::key::compare_slice;
 use entries::place::Place;
 use entries::place::Sizes;
-use entries::place::forward;
 use entries::place::lengths;
 use pages::read::get16;
+use reader::place_after;
 
 // Where the bytes sought are and how many, if they are there.
 pub enum Sought {
@@ -37,7 +37,7 @@ pub fn seek(image: &[u8], page: usize, key: &[u8]) -> Stop
         let order = compare_slice(image, first, g.key, key);
         match order {
             Order::Less => {
-                at = forward(image, first, g.key + g.value);
+                at = place_after(image, first, g.key + g.value);
                 left -= 1;
             }
             Order::Equal => {
@@ -60,7 +60,7 @@ pub fn find_entry(image: &[u8], page: usize, key: &[u8]) -> Sought
     match stop {
         Stop::Here(g, _) => {
             let first = g.after;
-            let value = forward(image, first, g.key);
+            let value = place_after(image, first, g.key);
             Sought::Found(value, g.value)
         }
         Stop::Above(_, _) => Sought::Missing,
@@ -90,7 +90,7 @@ pub fn key_above(image: &[u8], page: usize, key: &[u8]) -> Sought
                 return Sought::Missing;
             }
             let first = g.after;
-            let next = forward(image, first, g.key + g.value);
+            let next = place_after(image, first, g.key + g.value);
             key_of(image, next)
         }
         Stop::Above(g, _) => {

@@ -4,9 +4,9 @@ ghost use Rattle.search.specs.Spans.{SpanOn, EntryThere};
 ghost use Rattle.stage.specs.Changes.{SpottedOn, PassedOver, Going, Reached, IsNew, NextOf};
 use entries::place::Place;
 use entries::place::Sizes;
-use entries::place::forward;
 use entries::place::lengths;
 use pages::read::get16;
+use reader::place_after;
 use search::span::Stop;
 use search::span::seek;
 
@@ -77,7 +77,7 @@ fn pass(image: &[u8], at: Place) -> Place
 {
     let g = lengths(image, at);
     let first = g.after;
-    forward(image, first, g.key + g.value)
+    place_after(image, first, g.key + g.value)
 }
 
 // The place of the next old entry that stays.
@@ -121,6 +121,6 @@ pub fn next_entry(image: &[u8], cursor: Cursor, change: Change) -> Next
     }
     let g = lengths(image, at);
     let first = g.after;
-    let after = forward(image, first, g.key + g.value);
+    let after = place_after(image, first, g.key + g.value);
     Next::Old(g, Cursor { index, at: after })
 }

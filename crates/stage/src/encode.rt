@@ -12,9 +12,9 @@ use crate::change::Next;
 use crate::change::next_entry;
 use crate::measure::Part;
 use crate::measure::lens_at;
-use entries::copy::copy;
 use entries::copy::copy_bytes;
 use entries::place::Sizes;
+use reader::copy_from;
 
 // A number as two bytes.
 fn put16(stream: &mut [u8], at: usize, v: usize)
@@ -59,7 +59,7 @@ fn put_old(image: &[u8], g: Sizes, stream: &mut [u8], end: usize) -> usize
     let first = put_lengths(stream, end, g.key, g.value);
     let at = g.after;
     let n = g.key + g.value;
-    copy(image, at, n, &mut stream[first..]);
+    copy_from(image, at, n, &mut stream[first..]);
     first + n
 }
 

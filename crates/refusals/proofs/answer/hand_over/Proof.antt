@@ -15,8 +15,8 @@ returns c = λ o a. hand-none a (c .enum-told .given .1) _
 returns-2 : tie.Need-returns-2
 returns-2 c = λ o a. hand-short a _ _ (c .before .before .found .given .1) _ (c .if1 .taken)
 
-copy-requires : tie.Need-copy-requires
-copy-requires c κs =
+copy-from-requires : tie.Need-copy-from-requires
+copy-from-requires c κs =
     let p = c .before .before .before .before .before .before .before .pre in
     (hand-enough (p .1) _ _ (c .before .before .before .found .given .1), c .before .if1 .left)
 
@@ -26,9 +26,9 @@ same-length c = search needs
 returns-3 : tie.Need-returns-3
 returns-3 c = λ o a.
     let e = c .before .before .before .before in
-    hand-done a _ _ (e .before .before .found .given .1) _ _ (e .if1 .left) (c .before .before .copy .ensures)
+    hand-done a _ _ (e .before .before .found .given .1) _ _ (e .if1 .left) (c .before .before .copy-from .ensures)
 
 pub hand-over-spec : {M : Type 1} → statement M
 hand-over-spec =
     tie.close
-    (tie.spec enum-known-found enum-told returns returns-2 copy-requires same-length returns-3)
+    (tie.spec enum-known-found enum-told returns returns-2 copy-from-requires same-length returns-3)

@@ -6,13 +6,13 @@ use Rattle.search.proofs.Seeks.{found-here, found-above, found-end}
 use Rattle.search.proofs.span.find_entry.Statement.{statement}
 use Rattle.search.proofs.span.find_entry.Tie as tie
 
-forward-requires : tie.Need-forward-requires
-forward-requires c κs =
+place-after-requires : tie.Need-place-after-requires
+place-after-requires c κs =
     let s = c .before .before .before .before in
     enough-less _ (omega arith) (s .seek .ensures .is (s .before .before .before .pre) .met _ _ (c .before .before .stop .given .1) .at .enough)
 
 returns : tie.Need-returns
-returns c = record { is = λ x. found-here (c .before .before .before .before .before .seek .ensures .is x) _ _ (c .before .before .before .stop .given .1) _ (c .forward .ensures) }
+returns c = record { is = λ x. found-here (c .before .before .before .before .before .seek .ensures .is x) _ _ (c .before .before .before .stop .given .1) _ (c .place-after .ensures) }
 
 returns-2 : tie.Need-returns-2
 returns-2 c = record { is = λ x. found-above (c .before .before .seek .ensures .is x) _ _ (c .enum-told .given .1) }
@@ -26,7 +26,7 @@ find-entry-spec =
     (tie.spec
     (λ c κs. search needs)
     (λ c. search needs)
-    forward-requires
+    place-after-requires
     (λ c. search needs)
     (λ c. search needs)
     returns

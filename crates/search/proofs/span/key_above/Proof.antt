@@ -8,14 +8,14 @@ use Rattle.search.proofs.span.key_above.Tie as tie
 returns : tie.Need-returns
 returns c = record { is = λ x. next-last (c .before .before .before .before .seek .ensures .is x) _ _ (c .before .before .stop .given .1) (c .if1 .taken) }
 
-add-forward : tie.Need-add-forward
-add-forward c =
+add-place-after : tie.Need-add-place-after
+add-place-after c =
     let s = c .before .before .before .before .before .before in
     let m = s .seek .ensures .is (s .before .before .before .pre) .met _ _ (c .before .before .before .before .stop .given .1) .at in
     omega arith
 
-forward-requires : tie.Need-forward-requires
-forward-requires c κs =
+place-after-requires : tie.Need-place-after-requires
+place-after-requires c κs =
     let s = c .before .before .before .before .before .before in
     s .seek .ensures .is (s .before .before .before .pre) .met _ _ (c .before .before .before .before .stop .given .1) .at .enough
 
@@ -23,7 +23,7 @@ key-of-requires : tie.Need-key-of-requires
 key-of-requires c κs =
     let s = c .before .before .before .before .before .before .before in
     next-there (s .seek .ensures .is (s .before .before .before .pre)) _ _ (c .before .before .before .before .before .stop .given .1)
-    (c .before .before .before .if1 .left) _ (c .forward .ensures)
+    (c .before .before .before .if1 .left) _ (c .place-after .ensures)
 
 returns-2 : tie.Need-returns-2
 returns-2 c = record {
@@ -31,7 +31,7 @@ returns-2 c = record {
       let f = c .before in
       let s = f .before .before .before .before .before .before .before in
       next-is (s .seek .ensures .is x) _ _ (f .before .before .before .before .before .stop .given .1)
-      (f .before .before .before .if1 .left) _ (f .forward .ensures) _ (c .key-of .ensures);
+      (f .before .before .before .if1 .left) _ (f .place-after .ensures) _ (c .key-of .ensures);
 }
 
 returns-3 : tie.Need-returns-3
@@ -47,8 +47,8 @@ key-above-spec =
     (λ c κs. search needs)
     (λ c. search needs)
     returns
-    add-forward
-    forward-requires
+    add-place-after
+    place-after-requires
     key-of-requires
     (λ c. search needs)
     (λ c. search needs)

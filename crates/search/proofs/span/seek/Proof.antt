@@ -27,8 +27,8 @@ compare-slice-requires c κs =
     let l = c .before .before in
     entry-key (opened-entry (seeking-open (l .before .loop .inv (l .before .before .before .before .before .pre)) (l .loop-test .taken)) _ (c .before .lengths .ensures))
 
-forward-requires : tie.Need-forward-requires Inv-loop μ-loop
-forward-requires c κs =
+place-after-requires : tie.Need-place-after-requires Inv-loop μ-loop
+place-after-requires c κs =
     let m = c .before .before .before .before .before in
     let l = m .before in
     opened-entry (seeking-open (l .before .loop .inv (l .before .before .before .before .before .pre)) (l .loop-test .taken)) _ (m .lengths .ensures) .enough
@@ -38,7 +38,7 @@ loop-again c x =
     let m = c .before .before .before .before .before .before in
     let l = m .before in
     seeking-next (seeking-open (l .before .loop .inv x) (l .loop-test .taken)) _ (m .lengths .ensures) (x .there .order) _
-    (c .before .before .before .before .compare-slice .ensures) (c .before .before .enum-told .given .1) _ (c .forward .ensures)
+    (c .before .before .before .before .compare-slice .ensures) (c .before .before .enum-told .given .1) _ (c .place-after .ensures)
 
 returns : tie.Need-returns Inv-loop μ-loop
 returns c = record {
@@ -73,7 +73,7 @@ seek-spec =
     compare-slice-requires
     (λ c. search needs)
     (λ c. omega arith)
-    forward-requires
+    place-after-requires
     (λ c. omega arith)
     (λ c. omega arith)
     loop-again

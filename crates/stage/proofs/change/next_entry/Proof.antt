@@ -17,8 +17,8 @@ lengths-requires c κs =
     let p = r .before .before .pre in
     along-enough (kept-there (p .stands) (r .reach .ensures .is _ (p .stands) (p .has)) (c .before .is-new .ensures .other (c .if1 .left)) (p .has) .along)
 
-forward-requires : tie.Need-forward-requires
-forward-requires c κs =
+place-after-requires : tie.Need-place-after-requires
+place-after-requires c κs =
     let m = c .before .before in
     let e = m .before in
     let r = e .before .before .before in
@@ -32,7 +32,7 @@ returns-2 c =
     let e = m .before in
     let r = e .before .before .before in
     answer-old (m .lengths .ensures .keyBelow) (m .lengths .ensures .valueBelow)
-    (λ new es s l. next-old s (r .reach .ensures .is es s l) (e .before .is-new .ensures .other (e .if1 .left)) l _ (m .lengths .ensures) _ (c .forward .ensures) new)
+    (λ new es s l. next-old s (r .reach .ensures .is es s l) (e .before .is-new .ensures .other (e .if1 .left)) l _ (m .lengths .ensures) _ (c .place-after .ensures) new)
 
 pub next-entry-spec : {M : Type 1} → statement M
 next-entry-spec =
@@ -44,5 +44,5 @@ next-entry-spec =
     returns
     lengths-requires
     (λ c. search needs)
-    forward-requires
+    place-after-requires
     returns-2)

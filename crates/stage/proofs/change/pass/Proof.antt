@@ -8,11 +8,11 @@ use Rattle.stage.proofs.change.pass.Tie as tie
 lengths-requires : tie.Need-lengths-requires
 lengths-requires c κs = along-enough (c .before .pre .along)
 
-forward-requires : tie.Need-forward-requires
-forward-requires c κs = along-entry (c .before .before .before .before .pre .along) _ (c .before .before .lengths .ensures) .enough
+place-after-requires : tie.Need-place-after-requires
+place-after-requires c κs = along-entry (c .before .before .before .before .pre .along) _ (c .before .before .lengths .ensures) .enough
 
 returns : tie.Need-returns
-returns c = pass-done _ (c .before .before .before .lengths .ensures) (c .forward .ensures)
+returns c = pass-done _ (c .before .before .before .lengths .ensures) (c .place-after .ensures)
 
 pub pass-spec : {M : Type 1} → statement M
-pass-spec = tie.close (tie.spec lengths-requires (λ c. search needs) forward-requires returns)
+pass-spec = tie.close (tie.spec lengths-requires (λ c. search needs) place-after-requires returns)

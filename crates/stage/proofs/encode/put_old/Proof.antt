@@ -16,14 +16,14 @@ room : (c : tie.After-put-lengths)
     c .put-lengths .result + (s .args .g .key + s .args .g .value) ≤ length (c .put-lengths .last .0)
 room c = omega (arith, c .put-lengths .ensures .first, c .put-lengths .kept .0, copy-room (c .before .before .before .before .pre))
 
-sub-copy : tie.Need-sub-copy
-sub-copy c = omega (arith, room (c .before .before .before .before))
+sub-copy-from : tie.Need-sub-copy-from
+sub-copy-from c = omega (arith, room (c .before .before .before .before))
 
-part-copy-start : tie.Need-part-copy-start
-part-copy-start c = omega (arith, room (c .before .before .before .before))
+part-copy-from-start : tie.Need-part-copy-from-start
+part-copy-from-start c = omega (arith, room (c .before .before .before .before))
 
-copy-requires : tie.Need-copy-requires
-copy-requires c κs =
+copy-from-requires : tie.Need-copy-from-requires
+copy-from-requires c κs =
     let l = c .before .before .before .before .before in
     (l .before .before .before .before .pre .at .enough, rw (length-take, length-drop) (omega (arith, room l)))
 
@@ -33,7 +33,7 @@ add-result c = omega (arith, room (c .before .before .before .before .before .be
 returns : tie.Need-returns
 returns c =
     let l = c .before .before .before .before .before .before .before .before in
-    record { is = λ e es a. old-put a (l .put-lengths .ensures) (room l) (c .before .before .copy .ensures) }
+    record { is = λ e es a. old-put a (l .put-lengths .ensures) (room l) (c .before .before .copy-from .ensures) }
 
 pub put-old-spec : {M : Type 1} → statement M
 put-old-spec =
@@ -41,10 +41,10 @@ put-old-spec =
     (tie.spec
     put-lengths-requires
     (λ c. search needs)
-    sub-copy
-    part-copy-start
+    sub-copy-from
+    part-copy-from-start
     (λ c. search needs)
-    copy-requires
+    copy-from-requires
     add-result
     (λ c. search needs)
     returns)
