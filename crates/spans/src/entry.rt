@@ -10,11 +10,11 @@ use entries::key::compare_keys;
 use entries::key::printable;
 use entries::place::Place;
 use entries::place::Sizes;
-use entries::place::forward;
 use entries::place::gap;
 use entries::place::lengths;
 use entries::prefix::prefix;
 use entries::prefix::prefix_most;
+use reader::place_after;
 
 // The last key met: its place, its length, 0 where there is none, and a number that its prefix is not above.
 pub struct Last {
@@ -84,13 +84,13 @@ fn leap(image: &[u8], chart: &[u16], more: usize, at: Place, left: usize, n: usi
     ensures { λ r. ⌜ Moved (now (image .entry)) at n r ⌝ }
 {
     if n <= 16256 {
-        return forward(image, at, n);
+        return place_after(image, at, n);
     }
     let passed = 1016 * more - (left - n);
     let i = (passed - 1) / 16256;
     let page = chart[i] as usize;
     let from = Place { page, offset: 8 };
-    forward(image, from, passed - 16256 * i)
+    place_after(image, from, passed - 16256 * i)
 }
 
 // Reads the entry that follows; `left` bytes are left up to the end of the span's pages, of which `more` are continuation pages.
@@ -158,7 +158,7 @@ fn try_entry(image: &[u8], at: Place, left: usize, sizes: Sizes, last: Last, rul
     if !allowed(image, start, key, value, rule) {
         return Tried::Left;
     }
-    let after = forward(image, start, both);
+    let after = place_after(image, start, both);
     Tried::On(
         after,
         left - 4 - both,

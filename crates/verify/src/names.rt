@@ -9,10 +9,10 @@ ghost use Rattle.verify.specs.Tables.{NamesOn, MetaOn, TablesFound};
 use crate::table::verify_table;
 use entries::copy::number;
 use entries::place::Place;
-use entries::place::forward;
 use entries::place::lengths;
 use pages::read::get16;
 use pages::read::get32;
+use reader::place_after;
 use search::table::METAINDEX;
 use spans::Rule;
 use spans::entry::allowed;
@@ -34,13 +34,13 @@ fn verify_named(image: &[u8], scratch: &mut [u8], page: usize, before: usize) ->
         if !allowed(image, first, g.key, g.value, Rule::Names) {
             return Walked::Refused;
         }
-        let value = forward(image, first, g.key);
+        let value = place_after(image, first, g.key);
         let root = number(image, value);
         let Walked::Done(n) = verify_table(image, scratch, root, Rule::Keys) else {
             return Walked::Refused;
         };
         keys += n;
-        at = forward(image, first, g.key + g.value);
+        at = place_after(image, first, g.key + g.value);
         left -= 1;
     }
     Walked::Done(keys)

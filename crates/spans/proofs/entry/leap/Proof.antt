@@ -7,8 +7,8 @@ use Rattle.spans.proofs.Charts.{leap-near, leap-place, leap-enough, lea
 use Rattle.spans.proofs.entry.leap.Statement.{statement}
 use Rattle.spans.proofs.entry.leap.Tie as tie
 
-forward-requires : tie.Need-forward-requires
-forward-requires c κs = let p = c .before .before .before .pre in leap-near (p .0) (p .1)
+place-after-requires : tie.Need-place-after-requires
+place-after-requires c κs = let p = c .before .before .before .pre in leap-near (p .0) (p .1)
 
 sub-passed-2 : tie.Need-sub-passed-2
 sub-passed-2 c = let p = c .before .before .before .pre in omega (arith, leap-place (p .0) (p .1) (c .if1 .left) .some)
@@ -24,26 +24,26 @@ shared-slice-read-page c =
 cast-page : tie.Need-cast-page
 cast-page c = let a = c .before .before .before .before .args in omega (arith, c .shared-slice-known3 .given ((1016 * a .more - (a .left - a .n) - 1) / 16256))
 
-sub-forward : tie.Need-sub-forward
-sub-forward c =
+sub-place-after : tie.Need-sub-place-after
+sub-place-after c =
     let p = c .before .before .before .before .pre in
     omega (arith, leap-place (p .0) (p .1) (c .before .if1 .left) .before)
 
-forward-requires-2 : tie.Need-forward-requires-2
-forward-requires-2 c κs =
+place-after-requires-2 : tie.Need-place-after-requires-2
+place-after-requires-2 c κs =
     let p = c .before .before .before .before .pre in
     leap-enough (p .0) (p .1) (c .before .if1 .left) refl
 
 returns-2 : tie.Need-returns-2
 returns-2 c =
     let p = c .before .before .before .before .before .pre in
-    leap-moved (p .0) (p .1) (c .before .before .if1 .left) refl (c .forward2 .ensures)
+    leap-moved (p .0) (p .1) (c .before .before .if1 .left) refl (c .place-after2 .ensures)
 
 pub leap-spec : {M : Type 1} → statement M
 leap-spec =
     tie.close
     (tie.spec
-    forward-requires
+    place-after-requires
     (λ c. search needs)
     (λ c. search needs)
     (λ c. search needs)
@@ -53,6 +53,6 @@ leap-spec =
     shared-slice-read-page
     cast-page
     (λ c. search needs)
-    sub-forward
-    forward-requires-2
+    sub-place-after
+    place-after-requires-2
     returns-2)

@@ -21,8 +21,8 @@ allowed-requires c κs =
     let w = within (p .0) (p .2) in
     (entry-keys (p .0) (w .none) (p .1) (w .room) (w .inside) .1, omega (arith, d .if1 .left), omega (arith, p .1 .keyBelow), omega (arith, p .1 .valueBelow))
 
-forward-requires : tie.Need-forward-requires
-forward-requires c κs =
+place-after-requires : tie.Need-place-after-requires
+place-after-requires c κs =
     let p = c .before .before .before .before .before .before .before .before .pre in
     let w = within (p .0) (p .2) in
     entry-forward (p .0) (w .none) (p .1) (w .room) (w .inside)
@@ -46,7 +46,7 @@ returns-4 c =
     let w = within (p .0) (p .2) in
     let up = prefix-is-above (λ i. omega (arith, k .given i)) {l = start .args .last} (omega (arith, a .before .if1 .left)) (a .prefix .ensures) (omega (arith, c .before .before .before .if2 .left)) in
     record {
-      is = entry-done (p .0) (w .none) (p .1) (w .room) (w .inside) up refl (c .before .before .allowed .ensures) (not-false _ (c .before .if3 .left)) (c .forward .ensures)
+      is = entry-done (p .0) (w .none) (p .1) (w .room) (w .inside) up refl (c .before .before .allowed .ensures) (not-false _ (c .before .if3 .left)) (c .place-after .ensures)
           (prefix-itself (a .prefix .ensures)) (omega arith);
     }
 
@@ -60,7 +60,7 @@ try-entry-spec =
     (λ c. tried-left)
     allowed-requires
     (λ c. tried-left)
-    forward-requires
+    place-after-requires
     sub-t15
     sub-t16
     returns-4)

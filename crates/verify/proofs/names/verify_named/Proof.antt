@@ -66,8 +66,8 @@ returns c es h =
 passed : (c : tie.Else1 Inv-loop μ-loop) → c .before .allowed .result ≡ true
 passed c = not-false _ (c .if1 .left)
 
-forward-requires : tie.Need-forward-requires Inv-loop μ-loop
-forward-requires c κs =
+place-after-requires : tie.Need-place-after-requires Inv-loop μ-loop
+place-after-requires c κs =
     let g = c .before .before .before in
     let l = g .before in
     naming-key (naming l) (l .loop-test .taken) _ (g .lengths .ensures)
@@ -77,7 +77,7 @@ number-requires c κs =
     let e = c .before in
     let g = e .before .before .before in
     let l = g .before in
-    naming-value (naming l) (l .loop-test .taken) _ (g .lengths .ensures) _ (e .before .allowed .ensures) (passed e) _ (c .forward .ensures)
+    naming-value (naming l) (l .loop-test .taken) _ (g .lengths .ensures) _ (e .before .allowed .ensures) (passed e) _ (c .place-after .ensures)
 
 verify-table-requires : tie.Need-verify-table-requires Inv-loop μ-loop
 verify-table-requires c κs = lent (c .before .before .before .before .before .before .before)
@@ -102,7 +102,7 @@ returns-2 c es h =
     let e = root .before .before in
     let g = e .before .before .before in
     let l = g .before in
-    naming-no (l .before .loop .inv es h) (l .loop-test .taken) _ (g .lengths .ensures) _ (e .before .allowed .ensures) (passed e) _ (root .before .forward .ensures) (lent l) (bytes l)
+    naming-no (l .before .loop .inv es h) (l .loop-test .taken) _ (g .lengths .ensures) _ (e .before .allowed .ensures) (passed e) _ (root .before .place-after .ensures) (lent l) (bytes l)
     _ (root .number .ensures) _ _ (took .verify-table .ensures) (c .enum-told .given .1)
 
 add-keys : tie.Need-add-keys Inv-loop μ-loop
@@ -111,13 +111,13 @@ add-keys c =
     let l = loop-of took in
     omega (arith, table-fewer _ _ _ _ _ (took .verify-table .ensures .sound _ (c .before .n .given .1)), naming l .few, l .before .before .before .before .before .pre .2)
 
-add-forward : tie.Need-add-forward Inv-loop μ-loop
-add-forward c =
+add-place-after : tie.Need-add-place-after Inv-loop μ-loop
+add-place-after c =
     let g = c .before .before .before .before .before .before .before .before .before .before .before .before .before .lengths .ensures in
     omega (arith, g .keyBelow, g .valueBelow)
 
-forward-requires-2 : tie.Need-forward-requires-2 Inv-loop μ-loop
-forward-requires-2 c κs =
+place-after-requires-2 : tie.Need-place-after-requires-2 Inv-loop μ-loop
+place-after-requires-2 c κs =
     let g = c .before .before .before .before .before .before .before .before .before .before .before .before .before in
     naming-past (naming (g .before)) (g .before .loop-test .taken) _ (g .lengths .ensures)
 
@@ -134,8 +134,8 @@ loop-again c es h =
     let e = root .before .before in
     let g = e .before .before .before in
     let l = g .before in
-    naming-next (l .before .loop .inv es h) (l .loop-test .taken) _ (g .lengths .ensures) _ (e .before .allowed .ensures) (passed e) _ (root .before .forward .ensures) (lent l) (bytes l)
-    _ (root .number .ensures) _ _ (took .verify-table .ensures) _ (c .before .before .before .n .given .1) _ (c .forward2 .ensures)
+    naming-next (l .before .loop .inv es h) (l .loop-test .taken) _ (g .lengths .ensures) _ (e .before .allowed .ensures) (passed e) _ (root .before .place-after .ensures) (lent l) (bytes l)
+    _ (root .number .ensures) _ _ (took .verify-table .ensures) _ (c .before .before .before .n .given .1) _ (c .place-after2 .ensures)
 
 same-length-3 : tie.Need-same-length-3 Inv-loop μ-loop
 same-length-3 c = c .before .loop .inv _ (c .before .before .before .before .before .pre .1 .1) .long
@@ -155,7 +155,7 @@ verify-named-spec =
     allowed-requires
     same-length
     returns
-    forward-requires
+    place-after-requires
     number-requires
     verify-table-requires
     enum-known-n
@@ -163,8 +163,8 @@ verify-named-spec =
     same-length-2
     returns-2
     add-keys
-    add-forward
-    forward-requires-2
+    add-place-after
+    place-after-requires-2
     sub-left
     loop-less
     loop-again
