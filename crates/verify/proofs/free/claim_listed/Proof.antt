@@ -1,6 +1,5 @@
 use Prim.Native.Nat.{_-_}
 use native.Mathlib.Omega.{arith}
-use borrow.Author.Needs.{needs}
 use borrow.Author.Tests.{not-true, not-false}
 use Rattle.verify.proofs.Frees.{Listing, listing-start, listing-end, listing-no, listing-next}
 use Rattle.verify.proofs.free.claim_listed.Statement.{statement}
