@@ -1,6 +1,6 @@
 -- Get and next: what they share is said once, of any call that reads a table.
 use Prim.Native.Nat.{ℕ}
-use mathlib.Core.Path.{_≡_, refl, sym, ap, _∙_}
+use mathlib.Core.Path.{_≡_, refl, sym, ap, _∙_, subst}
 use mathlib.Core.List.{List, [], _++_}
 use mathlib.Core.Option.{none, Option·getD}
 use mathlib.Core.Bool.{Bool, true, false, not, _&&_, _||_}
@@ -9,7 +9,7 @@ use Rattle.blockfile.specs.declared.Got.{Got}
 use Rattle.blockfile.specs.declared.Got.the-variants.{Found, Refused as NotGot}
 use Rattle.blockfile.specs.Layout.{Layout, freeCount}
 use Rattle.blockfile.specs.Order.{keyRule, same, find, above}
-use Rattle.blockfile.specs.Refusals.{Op, get, next, Ledger, plain, ledgerOf, sought, rows, lowest, refused, handed, doneReply}
+use Rattle.blockfile.specs.Refusals.{Op, Ledger, plain, ledgerOf, sought, rows, lowest, refused, handed, doneReply}
 use Rattle.blockfile.specs.Answers.{planOf, refuse, outcomeIf, outcomeOn}
 use Rattle.blockfile.specs.Calls.{gotReply, accepted, Keeps}
 use Rattle.search.specs.declared.span.Sought.{Sought}
@@ -21,6 +21,9 @@ use Rattle.laws.proofs.Determined.{determined}
 use Rattle.refusals.specs.Table.{tableRows, OnTable, Entering}
 use Rattle.refusals.specs.Answer.{answerRows, Hands}
 use Rattle.refusals.proofs.Tables.{rows-left, its-map}
+use Rattle.store.specs.declared.ask.Question.{Question}
+use Rattle.store.specs.declared.ask.Question.the-variants.{Value, Above}
+use Rattle.store.specs.Ask.{asking, askable, Allows, askedIn, AskedIn}
 
 -- ---- A call that reads: it hands out the bytes sought in a table, and writes nothing on the image
 
@@ -34,18 +37,34 @@ not-or : (a b : Bool) → not (a || b) ≡ (not a && not b)
 not-or true b = refl
 not-or false b = refl
 
-module _ (name key : List ℕ) (legal : Bool) where
-  pub get-reads : legal ≡ keyRule name .allowed key → ReadCall (get name key) name legal
-  get-reads e = record { are = λ l room. rw e; gives = λ l. refl; replies = λ l free. refl; still = λ L. refl }
+ask-as : (q : Question) (name key : List ℕ) (legal : Bool) → legal ≡ askable q name key → ReadCall (asking q name key) name legal
+ask-as Value name key legal e = record { are = λ l room. rw e; gives = λ l. refl; replies = λ l free. refl; still = λ L. refl }
+ask-as Above name key legal e =
+    record {
+      are = λ l room. rw (e, not-or (same key []) (keyRule name .allowed key));
+      gives = λ l. refl;
+      replies = λ l free. refl;
+      still = λ L. refl;
+    }
 
-  pub next-reads : legal ≡ (same key [] || keyRule name .allowed key) → ReadCall (next name key) name legal
-  next-reads e =
-      record {
-        are = λ l room. rw (e, not-or (same key []) (keyRule name .allowed key));
-        gives = λ l. refl;
-        replies = λ l free. refl;
-        still = λ L. refl;
-      }
+pub ask-reads : {q : Question} {key : List ℕ} {legal : Bool} → Allows q key legal → (name : List ℕ) → ReadCall (asking q name key) name legal
+ask-reads {q} {key} {legal} a name = ask-as q name key legal (a .is name)
+
+-- ---- The ways through `may_ask` and `ask`
+
+module _ {q : Question} {key : List ℕ} {b : Bool} where
+  pub allows-value : q ≡ Value → ((name : List ℕ) → b ≡ keyRule name .allowed key) → Allows q key b
+  allows-value e h = subst (λ (x : Question). Allows x key b) (sym e) (record { is = h })
+
+  pub allows-above : q ≡ Above → ((name : List ℕ) → b ≡ (same key [] || keyRule name .allowed key)) → Allows q key b
+  allows-above e h = subst (λ (x : Question). Allows x key b) (sym e) (record { is = h })
+
+module _ {q : Question} {img : List ℕ} {root : ℕ} {key : List ℕ} {r : Sought} where
+  pub asked-value : q ≡ Value → FoundIn img root key r → AskedIn q img root key r
+  asked-value e h = subst (λ (x : Question). AskedIn x img root key r) (sym e) (record { is = h })
+
+  pub asked-above : q ≡ Above → AboveIn img root key r → AskedIn q img root key r
+  asked-above e h = subst (λ (x : Question). AskedIn x img root key r) (sym e) (record { is = h })
 
 -- ---- What the promise takes
 
@@ -86,12 +105,12 @@ module _ {img s name : List ℕ} {legal : Bool} {page : ℕ} {out : List ℕ} (h
   abbrev pub reading : Reading img page
   reading = table-reading img (h .layout) (h .well) name (h .there .table) (h .there .found) page (h .there .root)
 
-  module _ (key : List ℕ) (found : Sought) where
-    pub get-finds : FoundIn img page key found → Answered img (sought (ledgerOf (h .layout)) (get name key)) found
-    get-finds f = answer-as (ap (find key) (its-map (h .layout) name (h .there .table) (h .there .found))) (f .is reading)
+  finds-as : (q : Question) (key : List ℕ) (found : Sought) → askedIn q img page key found → Answered img (sought (ledgerOf (h .layout)) (asking q name key)) found
+  finds-as Value key found f = answer-as (ap (find key) (its-map (h .layout) name (h .there .table) (h .there .found))) (f .is reading)
+  finds-as Above key found f = answer-as (ap (above (keyRule name) key) (its-map (h .layout) name (h .there .table) (h .there .found))) (f .is reading)
 
-    pub next-finds : AboveIn img page key found → Answered img (sought (ledgerOf (h .layout)) (next name key)) found
-    next-finds f = answer-as (ap (above (keyRule name) key) (its-map (h .layout) name (h .there .table) (h .there .found))) (f .is reading)
+  pub ask-finds : {q : Question} {key : List ℕ} {found : Sought} → AskedIn q img page key found → Answered img (sought (ledgerOf (h .layout)) (asking q name key)) found
+  ask-finds {q} {key} {found} f = finds-as q key found (f .is)
 
 -- ---- The promise determines the numbers of the answer and every byte of scratch and answer buffer
 

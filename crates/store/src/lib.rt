@@ -3,7 +3,11 @@ ghost use mathlib.Core.List.{[]};
 ghost use mathlib.Core.Path.{_≡_};
 ghost use Rattle.blockfile.specs.Refusals.{check, get, next, put, remove, create, refusal};
 ghost use Rattle.change.specs.Request.{opOf};
+ghost use Rattle.store.specs.Ask.{asking};
 ghost use Rattle.blockfile.specs.Calls.{Keeps, checkedReply, gotReply, wroteReply};
+use ask::Question;
+use ask::ask;
+use ask::may_ask;
 use blockfile::Checked;
 use blockfile::Got;
 use blockfile::Refusal;
@@ -12,14 +16,12 @@ use change::Request;
 use change::change;
 use pages::claim::clear;
 use refusals::answer::hand_over;
-use refusals::legal::is_key;
-use refusals::legal::is_key_or_empty;
 use refusals::open::Opened;
 use refusals::open::open;
 use refusals::table::Entered;
 use refusals::table::open_table;
-use search::next::next_key;
-use search::table::find;
+
+mod ask;
 
 // Is the image well-formed, and what does it hold.
 pub fn check(image: &[u8], scratch: &mut [u8]) -> Checked
@@ -34,24 +36,35 @@ pub fn check(image: &[u8], scratch: &mut [u8]) -> Checked
     }
 }
 
+// A call that asks something of the table of the name: the answer stands at the start of the answer buffer.
+fn read(
+    image: &[u8],
+    scratch: &mut [u8],
+    question: Question,
+    name: &[u8],
+    key: &[u8],
+    answer: &mut [u8],
+) -> Got
+    ensures { λ r. ⌜ Keeps (asking question (now (name .entry)) (now (key .entry))) (now (image .entry)) (now (scratch .entry)) (now (answer .entry)) (gotReply r) (now (image .entry)) (now (scratch .exit)) (now (answer .exit)) ⌝ }
+{
+    match open_table(image, scratch, name, may_ask(question, key)) {
+        Entered::Refused(why) => Got::Refused(why),
+        Entered::Found(page) => hand_over(image, ask(image, page, question, key), answer),
+    }
+}
+
 // The value under the key in the table of the name, at the start of the answer buffer.
 pub fn get(image: &[u8], scratch: &mut [u8], name: &[u8], key: &[u8], answer: &mut [u8]) -> Got
     ensures { λ r. ⌜ Keeps (get (now (name .entry)) (now (key .entry))) (now (image .entry)) (now (scratch .entry)) (now (answer .entry)) (gotReply r) (now (image .entry)) (now (scratch .exit)) (now (answer .exit)) ⌝ }
 {
-    match open_table(image, scratch, name, is_key(key)) {
-        Entered::Refused(why) => Got::Refused(why),
-        Entered::Found(page) => hand_over(image, find(image, page, key), answer),
-    }
+    read(image, scratch, Question::Value, name, key, answer)
 }
 
 // The smallest key above the given one in the table of the name, of all keys for the empty one, at the start of the answer buffer.
 pub fn next(image: &[u8], scratch: &mut [u8], name: &[u8], key: &[u8], answer: &mut [u8]) -> Got
     ensures { λ r. ⌜ Keeps (next (now (name .entry)) (now (key .entry))) (now (image .entry)) (now (scratch .entry)) (now (answer .entry)) (gotReply r) (now (image .entry)) (now (scratch .exit)) (now (answer .exit)) ⌝ }
 {
-    match open_table(image, scratch, name, is_key_or_empty(key)) {
-        Entered::Refused(why) => Got::Refused(why),
-        Entered::Found(page) => hand_over(image, next_key(image, page, key), answer),
-    }
+    read(image, scratch, Question::Above, name, key, answer)
 }
 
 // A call that writes: verifies the image, makes the change with the scratch as its own up to the image's length, and clears that.

@@ -1,31 +1,31 @@
 use borrow.Author.Needs.{needs}
-use Rattle.blockfile.specs.Refusals.{get}
 use Rattle.refusals.specs.Table.{Entering}
 use Rattle.refusals.proofs.Tables.{table-stops, table-goes-on}
-use Rattle.store.proofs.Gets.{ReadCall, get-reads, read-on, read-answers, reading, get-finds}
-use Rattle.store.proofs.get.Statement.{statement}
-use Rattle.store.proofs.get.Tie as tie
+use Rattle.store.specs.Ask.{asking}
+use Rattle.store.proofs.Gets.{ReadCall, ask-reads, read-on, read-answers, reading, ask-finds}
+use Rattle.store.proofs.read.Statement.{statement}
+use Rattle.store.proofs.read.Tie as tie
 
 abbrev start : tie.After-open-table → tie.Start
 start c = c .before .before .before .before .before .before .before .before
 
 -- the key was judged by the rule of this call
 reads : (c : tie.After-open-table)
-    → ReadCall (get (start c .args .name .now) (start c .args .key .now)) (start c .args .name .now) (c .before .is-key .result)
-reads c = get-reads _ _ _ (c .before .is-key .ensures _)
+    → ReadCall (asking (start c .args .question) (start c .args .name .now) (start c .args .key .now)) (start c .args .name .now) (c .before .may-ask .result)
+reads c = ask-reads (c .before .may-ask .ensures) _
 
 -- the table is found
 entering : (c : tie.After-page)
     → let o = c .before .before .before .before in
     let a = start o .args in
-    Entering (a .image .now) (a .scratch .now) (a .name .now) (o .before .is-key .result) (c .page .given .0 .0) (o .open-table .last .1 .0)
+    Entering (a .image .now) (a .scratch .now) (a .name .now) (o .before .may-ask .result) (c .page .given .0 .0) (o .open-table .last .1 .0)
 entering c = let o = c .before .before .before .before in table-goes-on _ _ _ _ _ _ (o .open-table .ensures) _ (c .page .given .1)
 
-find-requires : tie.Need-find-requires
-find-requires c κs = reading (entering (c .before))
+ask-requires : tie.Need-ask-requires
+ask-requires c κs = reading (entering (c .before))
 
 hand-over-requires : tie.Need-hand-over-requires
-hand-over-requires c κs = let f = c .before in (_, get-finds (entering (f .before .before)) _ _ (f .find .ensures))
+hand-over-requires c κs = let f = c .before in (_, ask-finds (entering (f .before .before)) (f .ask .ensures))
 
 returns : tie.Need-returns
 returns c =
@@ -38,17 +38,17 @@ returns-2 c =
     let f = h .before .before in
     let p = f .before .before in
     read-answers (reads (p .before .before .before .before)) (entering p) _ (h .hand-over .result) _
-    (h .hand-over .ensures _ (get-finds (entering p) _ _ (f .find .ensures)))
+    (h .hand-over .ensures _ (ask-finds (entering p) (f .ask .ensures)))
 
-pub get-spec : {M : Type 1} → statement M
-get-spec =
+pub read-spec : {M : Type 1} → statement M
+read-spec =
     tie.close
     (tie.spec
     (λ c κs. search needs)
     (λ c κs. search needs)
     (λ c. search needs)
     (λ c. search needs)
-    find-requires
+    ask-requires
     hand-over-requires
     (λ c. search needs)
     returns
