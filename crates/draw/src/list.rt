@@ -5,17 +5,14 @@ ghost use lib.ListN.{length};
 ghost use lib.Seq.{sets};
 ghost use Rattle.blockfile.specs.Bytes.{be32, word32};
 ghost use Rattle.pages.specs.Places.{Number};
-use pages::read::byte;
+use pages::read::word32;
 
 // The number at an index of the list.
 pub fn number_at(numbers: &[u8], i: usize) -> usize
     requires { ⌜ 4 * i + 4 ≤ length (now numbers) ⌝ }
     ensures { λ r. ⌜ Number (be32 (now (numbers .entry)) (4 * i)) 4294967296 r ⌝ }
 {
-    let at = 4 * i;
-    let high = byte(numbers, at) * 256 + byte(numbers, at + 1);
-    let low = byte(numbers, at + 2) * 256 + byte(numbers, at + 3);
-    high * 65536 + low
+    word32(numbers, 4 * i)
 }
 
 // Stores a number at an index of the list.

@@ -9,7 +9,7 @@ use mathlib.Core.List.{List, [], _∷_}
 use lib.ListN.{length, drop, getD, length-drop}
 use lib.Seq.{drop-drop, getD-drop}
 use lib.Dec.{T}
-use Rattle.blockfile.specs.Bytes.{be16, be32, Every}
+use Rattle.blockfile.specs.Bytes.{be32, Every}
 use Rattle.blockfile.specs.Order.{bytesBelow, same, keyRule}
 use Rattle.blockfile.proofs.Bools.{not-so, same-eq}
 use Rattle.laws.proofs.Numbers.{be32-agree}
@@ -21,11 +21,6 @@ use Rattle.entries.proofs.Orders.{irrefl, less-below, order-on}
 use Rattle.entries.proofs.Prefixes.{lead-below, lead-order, lead-eight}
 
 -- ---- The number of eight bytes of a list
-
-pub half-is : (s : List ℕ) (from : ℕ) {a b c d : ℕ} → a ≡ getD s from 0 → b ≡ getD s (from + 1) 0 → c ≡ getD s (from + 2) 0 → d ≡ getD s (from + 3) 0
-    → (a * 256 + b) * 65536 + (c * 256 + d) ≡ be32 s from
-unfolding be32 be16
-half-is s from p q r t = let e : from + 3 ≡ from + 2 + 1 = omega arith in omega (arith, ap (λ (j : ℕ). getD s j 0) e)
 
 half-at : (s : List ℕ) (from i : ℕ) → be32 (drop from s) i ≡ be32 s (from + i)
 half-at s from i = be32-agree (drop from s) i s (from + i) (λ k h. getD-drop from s (i + k) 0 ∙ ap (λ (j : ℕ). getD s j 0) (omega arith))

@@ -1,4 +1,2 @@
 pub mod Places
-pub mod Begins
-pub mod Claims
 pub mod Taking

@@ -1,5 +1,4 @@
-// Pages of an image: reading and writing them, their marks, claims of pages, and the free list.
-pub mod claim;
+// Pages of an image: reading and writing them, their kinds, and the free list.
 pub mod free;
 pub mod mark;
 pub mod read;

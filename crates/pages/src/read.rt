@@ -1,15 +1,33 @@
-// Numbers on a page, big endian.
-ghost use Prim.Native.Nat.{_<_};
+// Numbers, big endian: anywhere in a slice, and on a page.
+ghost use Prim.Native.Nat.{_+_, _≤_, _<_};
 ghost use lib.ListN.{length, getD};
 ghost use Rattle.blockfile.specs.Bytes.{pg, be16, be32};
 ghost use Rattle.pages.specs.Places.{Inside, Number};
 
 // A byte of any slice.
-pub fn byte(image: &[u8], at: usize) -> usize
-    requires { ⌜ at < length (now image) ⌝ }
-    ensures { λ r. ⌜ Number (getD (now (image .entry)) at 0) 256 r ⌝ }
+pub fn byte(bytes: &[u8], at: usize) -> usize
+    requires { ⌜ at < length (now bytes) ⌝ }
+    ensures { λ r. ⌜ Number (getD (now (bytes .entry)) at 0) 256 r ⌝ }
 {
-    image[at] as usize
+    bytes[at] as usize
+}
+
+// Two bytes of any slice.
+pub fn word16(bytes: &[u8], at: usize) -> usize
+    requires { ⌜ at + 2 ≤ length (now bytes) ⌝ }
+    ensures { λ r. ⌜ Number (be16 (now (bytes .entry)) at) 65536 r ⌝ }
+{
+    let a = byte(bytes, at);
+    let b = byte(bytes, at + 1);
+    a * 256 + b
+}
+
+// Four bytes of any slice.
+pub fn word32(bytes: &[u8], at: usize) -> usize
+    requires { ⌜ at + 4 ≤ length (now bytes) ⌝ }
+    ensures { λ r. ⌜ Number (be32 (now (bytes .entry)) at) 4294967296 r ⌝ }
+{
+    word16(bytes, at) * 65536 + word16(bytes, at + 2)
 }
 
 // The two bytes at an offset of a page.
@@ -17,10 +35,7 @@ pub fn get16(image: &[u8], page: usize, offset: usize) -> usize
     requires { ⌜ Inside (now image) page offset 2 ⌝ }
     ensures { λ r. ⌜ Number (be16 (pg (now (image .entry)) page) offset) 65536 r ⌝ }
 {
-    let at = 1024 * (page - 1) + offset;
-    let a = byte(image, at);
-    let b = byte(image, at + 1);
-    a * 256 + b
+    word16(image, 1024 * (page - 1) + offset)
 }
 
 // The four bytes at an offset of a page.
@@ -28,5 +43,5 @@ pub fn get32(image: &[u8], page: usize, offset: usize) -> usize
     requires { ⌜ Inside (now image) page offset 4 ⌝ }
     ensures { λ r. ⌜ Number (be32 (pg (now (image .entry)) page) offset) 4294967296 r ⌝ }
 {
-    get16(image, page, offset) * 65536 + get16(image, page, offset + 2)
+    word32(image, 1024 * (page - 1) + offset)
 }

@@ -89,3 +89,15 @@ pub fn put_page(image: &mut [u8], page: usize, kind: usize, link: usize, src: &[
     put_bytes(image, page, 8, &src[from..end]);
     put_zeros(image, page, 8 + n, 1016 - n)
 }
+
+// Zeroes the first n bytes.
+pub fn clear(bytes: &mut [u8], n: usize)
+    requires { ⌜ n ≤ length (now bytes) ⌝ }
+    ensures { λ _. ⌜ now (bytes .exit) ≡ replicate n 0 ++ drop n (now (bytes .entry)) ⌝ }
+{
+    let mut i = 0;
+    while i < n {
+        bytes[i] = 0;
+        i += 1;
+    }
+}

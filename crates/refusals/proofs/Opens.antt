@@ -1,11 +1,11 @@
 -- Opening an image: one law for each way out.
 use Prim.Native.Nat.{ℕ, _+_, _*_, _-_, _/_, _%_, _≤_}
 use native.Mathlib.Omega.{arith}
-use mathlib.Core.Path.{_≡_, refl, sym, ap, _∙_, subst}
+use mathlib.Core.Path.{_≡_, refl, ap, _∙_, subst}
 use mathlib.Core.List.{List, _++_}
 use mathlib.Core.Bool.{true}
-use lib.ListN.{length, take, drop, replicate, length-append, length-drop, length-replicate}
-use lib.Seq.{take-at, drop-at, drop-append-add, drop-drop}
+use lib.ListN.{length, take, drop, replicate, length-append, length-take, length-drop}
+use lib.Seq.{drop-append-add, drop-drop}
 use lib.Dec.{eqb, eqb→eq}
 use Rattle.blockfile.specs.declared.Counts.{Counts}
 use Rattle.blockfile.specs.declared.Refusal.{Refusal}
@@ -16,7 +16,7 @@ use Rattle.blockfile.specs.Refusals.{Op, refusal}
 use Rattle.blockfile.specs.Answers.{refuse}
 use Rattle.blockfile.specs.Calls.{lengthOk, cleared, Called, malformed, Keeps}
 use Rattle.blockfile.proofs.Bools.{holds, and-both, within-is}
-use Rattle.pages.specs.Claims.{Lent}
+use Rattle.heads.specs.Claims.{Room}
 use Rattle.verify.specs.declared.image.Verdict.{Verdict}
 use Rattle.verify.specs.declared.image.Verdict.the-variants.{Bad, Good}
 use Rattle.verify.specs.Image.{countsOf, Judged}
@@ -43,44 +43,29 @@ pub record Fits (img s : List ℕ) : Type 0 where
   pub sized : lengthOk (length img) ≡ true
   pub enough : length img ≤ length s
 
--- ---- The scratch: s as it came, scr with a byte for each page cleared; v is what verify leaves of these
+-- ---- The scratch: s as it came; its first part is lent to verify, which leaves v of it
 
-module _ (img s scr : List ℕ) (fits : Fits img s) (clear : scr ≡ cleared (length img / 1024) s) where
-  zeros : take (length img / 1024) scr ≡ replicate (length img / 1024) 0
-  zeros =
-      ap (take (length img / 1024)) clear
-      ∙ take-at (replicate (length img / 1024) 0) (drop (length img / 1024) s) (length img / 1024) (length-replicate {A = ℕ} _ 0)
-
-  others : drop (length img / 1024) scr ≡ drop (length img / 1024) s
-  others =
-      ap (drop (length img / 1024)) clear
-      ∙ drop-at (replicate (length img / 1024) 0) (drop (length img / 1024) s) (length img / 1024) (length-replicate {A = ℕ} _ 0)
-
-  pub part-long : length (take (length img / 1024) scr) ≡ length img / 1024
-  part-long = ap length zeros ∙ length-replicate {A = ℕ} _ 0
+module _ (img s : List ℕ) (fits : Fits img s) where
+  pub part-long : length (take (length img / 64) s) ≡ length img / 64
+  part-long = rw length-take (omega (arith, fits .enough))
 
   -- what verify asks of the part that it is lent
-  pub lent : let part = take (length img / 1024) scr in Lent img part × (4 ≤ length part) × (part ≡ replicate (length part) 0)
-  lent =
+  pub room : let part = take (length img / 64) s in Room img part × (4096 ≤ length img)
+  room =
       let p = paged (length img) (fits .sized) in
       let long = part-long in
-      (record { size = omega arith; most = omega arith }, omega arith, zeros ∙ ap (λ (k : ℕ). replicate k 0) (sym part-long))
+      (record { size = omega (arith, long, p .whole); whole = omega (arith, long, p .whole); most = omega (arith, long, p .whole, p .high) }, omega (arith, p .low))
 
   -- the scratch after it is as long as it was, and past the image's length as it was
-  pub kept : (v : List ℕ) → length v ≡ length img / 1024
-      → let out = v ++ drop (length img / 1024) scr in (length out ≡ length s) × (drop (length img) out ≡ drop (length img) s)
+  pub kept : (v : List ℕ) → length v ≡ length img / 64
+      → let out = v ++ drop (length img / 64) s in (length out ≡ length s) × (drop (length img) out ≡ drop (length img) s)
   kept v e =
-      let p = paged (length img) (fits .sized) in
-      let n = length img / 1024 in
+      let n = length img / 64 in
       let more = length img - n in
       let on : length img ≡ length v + more = omega arith in
       let back : n + more ≡ length img = omega arith in (
-        omega (arith, length-append v (drop n scr), ap length others, length-drop n s),
-        ap (λ (k : ℕ). drop k (v ++ drop n scr)) on
-            ∙ drop-append-add v (drop n scr) more
-            ∙ ap (drop more) others
-            ∙ drop-drop more n s
-            ∙ ap (λ (k : ℕ). drop k s) back,
+        omega (arith, length-append v (drop n s), length-drop n s, fits .enough),
+        ap (λ (k : ℕ). drop k (v ++ drop n s)) on ∙ drop-append-add v (drop n s) more ∙ drop-drop more n s ∙ ap (λ (k : ℕ). drop k s) back,
       )
 
 -- cleared at the end: what the call did below the image's length is gone

@@ -5,7 +5,7 @@ ghost use Rattle.refusals.specs.Open.{Opens};
 use crate::legal::is_within;
 use blockfile::Counts;
 use blockfile::Refusal;
-use pages::claim::clear;
+use pages::write::clear;
 use verify::image::Verdict;
 use verify::image::verify;
 
@@ -36,10 +36,9 @@ pub fn open(image: &[u8], scratch: &mut [u8]) -> Opened
     if scratch.len() < image.len() {
         return Opened::Refused(Refusal::ScratchLength);
     }
-    // a byte for each page
-    let pages = image.len() / 1024;
-    clear(scratch, pages);
-    let Verdict::Good(counts) = verify(image, &mut scratch[..pages]) else {
+    // room for the heads of the pages
+    let heads = image.len() / 64;
+    let Verdict::Good(counts) = verify(image, &mut scratch[..heads]) else {
         clear(scratch, image.len());
         return Opened::Refused(Refusal::NotWellFormed);
     };

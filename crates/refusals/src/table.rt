@@ -5,7 +5,7 @@ use crate::legal::is_name;
 use crate::open::Opened;
 use crate::open::open;
 use blockfile::Refusal;
-use pages::claim::clear;
+use pages::write::clear;
 use search::table::Named;
 use search::table::find_table;
 

@@ -13,9 +13,9 @@ use Rattle.blockfile.specs.Order.{bytesBelow}
 use Rattle.blockfile.specs.Fields.{EntriesAt}
 use Rattle.laws.proofs.Numbers.{be16-agree}
 use Rattle.laws.proofs.Positions.{lens-cases, entries-after}
-use Rattle.spans.specs.declared.Rule.{Rule}
 use Rattle.spans.specs.Entries.{fits, Above, lastKey, skip, keyLength, valueLength, keyOf, taken, Run}
 use Rattle.spans.proofs.Runs.{skip-cases}
+use Rattle.spans.specs.Spans.{Rule}
 
 be16-drop : (k : ℕ) (l : List ℕ) (i : ℕ) → be16 (drop k l) i ≡ be16 l (k + i)
 be16-drop k l i = be16-agree (drop k l) i l (k + i) (λ j q. getD-drop k l (i + j) 0 ∙ ap (λ (x : ℕ). getD l x 0) (sym (add-assoc k i j)))

@@ -10,11 +10,11 @@ use lib.Seq.{drop-drop, getD-set-same, getD-set-other}
 use Rattle.entries.specs.declared.place.Place.{Place}
 use Rattle.entries.specs.Places.{Rest, Enough, Moved}
 use Rattle.entries.proofs.Rests.{rest-one, rest-next}
-use Rattle.spans.specs.declared.Rule.{Rule}
 use Rattle.spans.specs.declared.entry.Last.{Last}
 use Rattle.spans.specs.declared.entry.Entered.the-variants.{Read}
 use Rattle.spans.specs.Entries.{taken, keyOf, Run, LastIs, Ended, Entering}
 use Rattle.spans.specs.Charts.{along, Charted, Noted, Spread}
+use Rattle.spans.specs.Spans.{Rule}
 
 -- ---- Filled, page after page
 

@@ -1,5 +1,5 @@
 -- The ways through `claim_conts` and `claim_span`.
-use Prim.Native.Nat.{ℕ, suc, _+_, _*_, _≤_, _<_}
+use Prim.Native.Nat.{ℕ, _+_, _*_, _≤_, _<_}
 use native.Mathlib.Omega.{arith}
 use native.Mathlib.Numerals.{add-one}
 use mathlib.Core.Path.{_≡_, refl, ap, sym, _∙_, subst}
@@ -9,12 +9,12 @@ use lib.ListN.{length, take, getD}
 use Rattle.blockfile.specs.Bytes.{pg, be32, Every, firstOf}
 use Rattle.blockfile.specs.Marks.{spanMark, contMark, marks}
 use Rattle.blockfile.specs.Fields.{AreConts}
-use Rattle.pages.specs.Begins.{begins}
-use Rattle.pages.specs.Places.{Inside}
-use Rattle.pages.specs.Claims.{Lent, Claimed, claimed}
-use Rattle.pages.proofs.Marks.{begins-take, take-begins}
-use Rattle.walks.specs.Found.{Open, Fresh, claims, zeros, FindsAt}
-use Rattle.walks.proofs.Founds.{length-claimed, zeros-claimed, zeros-most, claimable-open, open-claimable, SameAt, same-start, same-turn, finds-none, finds-done}
+use Rattle.heads.specs.Begins.{begins}
+use Rattle.heads.specs.Claims.{Lent, Claimed, claimed}
+use Rattle.heads.proofs.Marks.{begins-take, take-begins}
+use Rattle.walks.specs.Found.{Open, Fresh, claims, unclaimed, FindsAt}
+use Rattle.walks.proofs.Founds.{length-claimed, unclaimed-most, open-claimable, SameAt, same-start, same-turn, finds-none, finds-done}
+use Rattle.walks.proofs.Pieces.{claim-left, claim-open, claim-begins, claim-length, claim-falls, claim-lent}
 use Rattle.entries.specs.Places.{IsPage}
 use Rattle.spans.specs.declared.claims.Claims.{Claims}
 use Rattle.spans.specs.declared.claims.Claims.the-variants.{Refused, Held}
@@ -24,28 +24,8 @@ use Rattle.spans.proofs.Charts.{charted-none, charted-next}
 
 -- ---- a claim
 
-module _ {img scr : List ℕ} {n k : ℕ} {r : Bool} {out : List ℕ} (c : Claimed img scr n k r out) where
-  claim-left : r ≡ true → out ≡ claimed scr n
-  claim-left e = c .left ∙ rw e
-
-  claim-open : r ≡ true → Open scr n
-  claim-open e = claimable-open img scr n k (sym (c .answer) ∙ e) .0
-
-  claim-begins : r ≡ true → begins (getD marks k []) (pg img n) ≡ true
-  claim-begins e = claimable-open img scr n k (sym (c .answer) ∙ e) .1
-
-  claim-not : r ≡ false → Open scr n → begins (getD marks k []) (pg img n) ≡ true → ⊥
-  claim-not e o b = true≢false (sym (open-claimable img scr n k o b) ∙ sym (c .answer) ∙ e)
-
-  -- a claimed page can be read
-  pub claim-inside : r ≡ true → Lent img scr → (o w : ℕ) → o + w ≤ 1024 → Inside img n o w
-  claim-inside e h o w f = let p : Open scr n = claim-open e in record { small = omega arith; low = p .low; high = omega arith; fits = f }
-
-  pub claim-length : r ≡ true → length out ≡ length scr
-  claim-length e = ap length (claim-left e) ∙ length-claimed scr n
-
-  pub claim-falls : r ≡ true → zeros scr ≡ suc (zeros out)
-  claim-falls e = zeros-claimed scr n (claim-open e) ∙ ap (λ (s : List ℕ). suc (zeros s)) (sym (claim-left e))
+claim-not : {img scr : List ℕ} {n k : ℕ} {r : Bool} {out : List ℕ} → Claimed img scr n k r out → r ≡ false → Open scr n → begins (getD marks k []) (pg img n) ≡ true → ⊥
+claim-not {img} {scr} {n} {k} c e o b = true≢false (sym (open-claimable img scr n k o b) ∙ sym (c .answer) ∙ e)
 
 -- the marks of four bytes
 span-begins : (b : List ℕ) → begins (getD marks 3 []) b ≡ true → take 4 b ≡ spanMark
@@ -112,18 +92,16 @@ module _ (img scr : List ℕ) (p n : ℕ) where
 -- a loop has claimed n pages from `start` on, and is at page p
 pub record Claiming (img scr₀ : List ℕ) (start : ℕ) (scr : List ℕ) (p n : ℕ) : Type 0 where
   pub kept : length scr ≡ length scr₀
-  pub few : n + zeros scr ≡ zeros scr₀
+  pub few : n + unclaimed scr ≡ unclaimed scr₀
+  pub lent : Lent img scr
   pub same : SameAt (ContsFound img scr p n) (ContsFound img scr₀ start 0)
 
-pub claiming-start : (img scr : List ℕ) (start : ℕ) → Claiming img scr start scr start 0
-claiming-start img scr start = record { kept = refl; few = omega arith; same = same-start (ContsFound img scr start 0) }
+pub claiming-start : (img scr : List ℕ) (start : ℕ) → Lent img scr → Claiming img scr start scr start 0
+claiming-start img scr start lent = record { kept = refl; few = omega arith; lent = lent; same = same-start (ContsFound img scr start 0) }
 
 module _ {img scr₀ : List ℕ} {start : ℕ} {scr : List ℕ} {p n : ℕ} (w : Claiming img scr₀ start scr p n) where
   pub claiming-end : p ≡ 0 → FindsAt held (ContsFound img scr₀ start 0) (Held n) scr
   claiming-end e = finds-done held (Held n) scr (w .same) held-one n refl (conts-end img scr p n e) (conts-only img scr p n e)
-
-  pub claiming-lent : Lent img scr₀ → Lent img scr
-  claiming-lent h = record { size = omega (arith, w .kept, h .size); most = omega (arith, w .kept, h .most) }
 
   module _ (z : p ≡ 0 → ⊥) {r : Bool} {out : List ℕ} (c : Claimed img scr p 4 r out) where
     pub claiming-no : r ≡ false → FindsAt held (ContsFound img scr₀ start 0) Refused out
@@ -134,6 +112,7 @@ module _ {img scr₀ : List ℕ} {start : ℕ} {scr : List ℕ} {p n : ℕ} (w :
         record {
           kept = claim-length c e ∙ w .kept;
           few = omega (arith, claim-falls c e, w .few);
+          lent = claim-lent c e (w .lent);
           same = rw is (same-turn (conts-more img scr p n z c e) (w .same));
         }
 
@@ -143,8 +122,8 @@ pub record Noting (img scr₀ : List ℕ) (start : ℕ) (scr chart : List ℕ) (
   pub charted : Charted img start n chart
   pub on : p ≡ along img start n
 
-pub noting-start : (img scr chart : List ℕ) (start : ℕ) → length chart ≡ 256 → Noting img scr start scr chart start 0
-noting-start img scr chart start l = record { claiming = claiming-start img scr start; charted = charted-none img start chart l; on = refl }
+pub noting-start : (img scr chart : List ℕ) (start : ℕ) → Lent img scr → length chart ≡ 256 → Noting img scr start scr chart start 0
+noting-start img scr chart start lent l = record { claiming = claiming-start img scr start lent; charted = charted-none img start chart l; on = refl }
 
 module _ {img scr₀ : List ℕ} {start : ℕ} {scr chart : List ℕ} {p n : ℕ} (w : Noting img scr₀ start scr chart p n) where
   pub noting-end : p ≡ 0 → ContsClaimed img scr₀ start (Held n) scr chart
@@ -156,10 +135,10 @@ module _ {img scr₀ : List ℕ} {start : ℕ} {scr chart : List ℕ} {p n : ℕ
 
     module _ (e : r ≡ true) where
       -- what noting the page asks
-      pub noting-few : Lent img scr₀ → (n < 4096) × (p ≤ 4096)
-      noting-few h = (
-        omega (arith, h .most, zeros-most scr₀, w .claiming .few, claim-falls c e),
-        omega (arith, h .most, w .claiming .kept, claim-open c e .high),
+      pub noting-few : (n < 4096) × (p ≤ 4096)
+      noting-few = let most = w .claiming .lent .most in (
+        omega (arith, most, w .claiming .kept, unclaimed-most scr₀, w .claiming .few, claim-falls c e),
+        omega (arith, most, claim-open c e .high),
       )
 
       pub noting-next : {new : List ℕ} → Noted chart n p new → (next : ℕ) → next ≡ be32 (pg img p) 4 → Noting img scr₀ start out new next (n + 1)
@@ -210,13 +189,9 @@ module _ {img scr : List ℕ} {p : ℕ} {r : Bool} {mid : List ℕ} (c : Claimed
   pages-then e first is {chart = chart} f =
       record { found = pages-all e first is (f .found); charted = λ m q. subst (λ (n : ℕ). Charted img n m chart) is (f .charted m q) }
 
--- ---- claimed pages are pages of the image, and no more than there are
+-- ---- claimed pages are pages of the image
 
-pub inside-fresh : (img scr ns : List ℕ) → length img ≡ 1024 * length scr → Fresh scr ns → Every (IsPage img) ns
+pub inside-fresh : (img scr ns : List ℕ) → length img ≡ 64 * length scr → Fresh scr ns → Every (IsPage img) ns
 inside-fresh img scr [] e f = tt
 inside-fresh img scr (n ∷ ns) e f =
     (record { low = f .0 .low; high = omega (arith, f .0 .high) }, inside-fresh img (claimed scr n) ns (omega (arith, length-claimed scr n)) (f .1))
-
-pub zeros-claims : (scr ns : List ℕ) → Fresh scr ns → zeros scr ≡ length ns + zeros (claims scr ns)
-zeros-claims scr [] f = omega arith
-zeros-claims scr (n ∷ ns) f = omega (arith, zeros-claimed scr n (f .0), zeros-claims (claimed scr n) ns (f .1))

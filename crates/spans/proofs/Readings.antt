@@ -10,11 +10,12 @@ use Rattle.blockfile.specs.Layout.{Entry, entriesEnd, reached}
 use Rattle.blockfile.specs.Fields.{AreConts}
 use Rattle.laws.proofs.Pages.{length-pg}
 use Rattle.pages.specs.Places.{Number}
+use Rattle.heads.specs.Claims.{Lent, Linking, linkAt}
+use Rattle.heads.proofs.Claims.{linking, link-read}
 use Rattle.entries.specs.declared.place.Place.{Place}
 use Rattle.entries.specs.Places.{IsPage, streamOf, Rest}
 use Rattle.entries.proofs.Rests.{length-stream, conts-one, rest-in}
 use Rattle.entries.proofs.Keys.{key-one}
-use Rattle.spans.specs.declared.Rule.{Rule}
 use Rattle.spans.specs.declared.entry.Last.{Last}
 use Rattle.spans.specs.declared.entry.Entered.{Entered}
 use Rattle.spans.specs.declared.entry.Entered.the-variants.{Bad, Read}
@@ -24,6 +25,7 @@ use Rattle.spans.specs.Entries.{lastKey, taken, keyOf, Run, LastIs, Read
 use Rattle.spans.specs.Charts.{Charted, Spread}
 use Rattle.spans.specs.Parts.{spanOn, SpanIs, ReadySpan, SpanSays, Reading}
 use Rattle.spans.proofs.Bridge.{Listed, run-listed, listed-run}
+use Rattle.spans.specs.Spans.{Rule}
 
 -- entries that end at e reach 1 + m pages
 pages-by : (e m : ℕ) → 1016 * m < e → e ≤ 1016 * (1 + m) → 1 + m ≡ (e + 1015) / 1016
@@ -61,6 +63,14 @@ module _ {img : List ℕ} {p more : ℕ} {l : Last} (r : ReadySpan img p more l)
 
   pub span-ready : Ready img (record { page = p; offset = 20 }) (1004 + 1016 * more) l
   span-ready = record { bytes = drop 12 st; rest = from-20; long = rw length-drop (omega (arith, whole, r .long)); low = r .low; key = r .key }
+
+  -- links are read from the span's head
+  module _ {scr : List ℕ} (lent : Lent img scr) {o : ℕ} (some : 1 ≤ o) (fits : o + 4 ≤ 16) where
+    pub span-linking : Linking scr p o
+    span-linking = linking lent (r .pages .page .low) (r .pages .page .high) fits
+
+    pub span-link : {top v : ℕ} → Number (linkAt scr p o) top v → Number (be32 (pg img p) o) top v
+    span-link x = link-read lent p (span-linking .low) (span-linking .high) o some fits x
 
   -- the first continuation page
   from-first : (cs : List ℕ) → be32 (pg img p) 4 ≡ firstOf cs → AreConts cs (map (pg img) cs) → Every (IsPage img) cs → 0 < length cs
@@ -102,6 +112,9 @@ module _ {img : List ℕ} {p more : ℕ} {l : Last} (r : ReadySpan img p more l)
           (subst (λ (y : List ℕ). SpanSays rule img p y prev z (r .low) a)
           (conts-one img (r .conts) conts (r .pages .inside) (c .inside) (sym (r .pages .linked) ∙ c .linked) (r .pages .are) (c .are)) x);
     }
+
+    pub read-other : {g : ℕ} → Number (be32 (pg img p) 8) 4294967296 g → (g ≡ prev → ⊥) → Reading rule img p prev z l Wrong
+    read-other g n = all-of Wrong (λ es next b. n (g .is ∙ b .bears .prev))
 
     module _ {n : ℕ} (e : Number (be16 (pg img p) 18) 65536 n) where
       -- the run that the entries of a span are, and where it ends

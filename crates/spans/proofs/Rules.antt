@@ -10,9 +10,8 @@ use Rattle.blockfile.specs.Order.{nameRule, keyRule}
 use Rattle.entries.specs.declared.place.Place.{Place}
 use Rattle.entries.specs.Keys.{KeyAt, Printed}
 use Rattle.entries.proofs.Keys.{key-length}
-use Rattle.spans.specs.declared.Rule.{Rule}
-use Rattle.spans.specs.declared.Rule.the-variants.{Names, Keys}
 use Rattle.spans.specs.Entries.{fits, Allowed}
+use Rattle.spans.specs.Spans.{Rule, Names, Keys}
 
 module _ {rule : Rule} (img : List ℕ) (at : Place) (n v : ℕ) (low : 1 ≤ n) where
   -- what is shown of keys of n bytes

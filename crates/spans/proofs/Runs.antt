@@ -23,13 +23,14 @@ use Rattle.entries.proofs.Places.{gap-next, gap-here}
 use Rattle.entries.proofs.Orders.{less-below, below-less}
 use Rattle.entries.proofs.Keys.{key-one, key-length}
 use Rattle.entries.proofs.Prefixes.{prefix-above}
-use Rattle.spans.specs.declared.Rule.{Rule}
 use Rattle.spans.specs.declared.entry.Last.{Last}
 use Rattle.spans.specs.declared.entry.Entered.{Entered}
 use Rattle.spans.specs.declared.entry.Entered.the-variants.{Bad, Read}
 use Rattle.spans.specs.declared.entry.Tried.{Tried}
 use Rattle.spans.specs.declared.entry.Tried.the-variants.{Left, On}
 use Rattle.spans.specs.Entries.{fits, Met, IsAbove, Allowed, skip, keyLength, valueLength, keyOf, taken, Run, Whole, Ready, Ended, Ends, Entering, Tries}
+use Rattle.spans.specs.Spans.{Rule, Keys}
+use Rattle.spans.proofs.Rules.{allowed-key}
 
 -- length bytes are moved past what is left on the page where that is 1 to 3 bytes
 pub skip-cases : (s : List ℕ) {X : Type 0} → (length s % 1016 < 4 → skip s ≡ length s % 1016 → X) → (4 ≤ length s % 1016 → skip s ≡ 0 → X) → X
@@ -131,26 +132,24 @@ module _ {img : List ℕ} {at : Place} {left : ℕ} {l : Last} (r : Ready img at
             pub entry-some : 1 ≤ z .key
             entry-some = omega (arith, some-below (r .low) (keyOf (r .bytes)) below, key-length entry-key)
 
-            module _ {rule : Rule} {b : Bool} (w : Allowed rule img (z .after) (z .key) (z .value) b) where
-              b-is : b ≡ fits rule (keyOf (r .bytes)) (valueLength (r .bytes))
-              b-is = w .is (keyOf (r .bytes)) entry-key ∙ ap (fits rule (keyOf (r .bytes))) v-is
+            fine : T (fits Keys (keyOf (r .bytes)) (valueLength (r .bytes)))
+            fine =
+                let w : Allowed Keys img (z .after) (z .key) (z .value) true = allowed-key img (z .after) (z .key) (z .value) entry-some refl (omega (arith, m .keyBelow)) (omega (arith, m .valueBelow)) in
+                subst T (w .is (keyOf (r .bytes)) entry-key ∙ ap (fits Keys (keyOf (r .bytes))) v-is) tt
 
-              pub entry-barred : b ≡ false → Entering rule img at l 1 Bad
-              entry-barred e = all-of 1 Bad (λ t hi x. subst T (sym b-is ∙ e) (x .1 .1))
-
-              pub entry-done : b ≡ true → {p : Place} → Moved img (z .after) (z .key + z .value) p → {q : ℕ} → PrefixMost img (z .after) (z .key) q
-                  → {rest : ℕ} → rest ≡ left - g - 4 - (z .key + z .value) → Entering rule img at l 1 (Read p rest (record { at = z .after; length = z .key; prefix = q }))
-              unfolding taken
-              entry-done ok {p} v {q} most {rest} e =
-                  let sum : taken (r .bytes) ≡ skip (r .bytes) + 4 + (z .key + z .value) = omega (arith, k-is, v-is) in
-                  all-of 1 (Read p rest (record { at = z .after; length = z .key; prefix = q })) (record {
-                    bytes = drop (taken (r .bytes)) (r .bytes);
-                    hi = keyOf (r .bytes);
-                    run = (omega (arith, sum, g-is, r .long), (below, subst T (sym ok ∙ b-is) tt), (refl, refl));
-                    rest = rw (sum, ← drop-drop (z .key + z .value) (skip (r .bytes) + 4) (r .bytes)) (v .to (drop (skip (r .bytes) + 4) (r .bytes)) there);
-                    long = rw length-drop (omega (arith, sum, g-is, r .long));
-                    key = record { there = entry-key; most = most .most (keyOf (r .bytes)) entry-key };
-                  })
+            pub entry-done : {p : Place} → Moved img (z .after) (z .key + z .value) p → {q : ℕ} → PrefixMost img (z .after) (z .key) q
+                → {rest : ℕ} → rest ≡ left - g - 4 - (z .key + z .value) → Entering Keys img at l 1 (Read p rest (record { at = z .after; length = z .key; prefix = q }))
+            unfolding taken
+            entry-done {p} v {q} most {rest} e =
+                let sum : taken (r .bytes) ≡ skip (r .bytes) + 4 + (z .key + z .value) = omega (arith, k-is, v-is) in
+                all-of 1 (Read p rest (record { at = z .after; length = z .key; prefix = q })) (record {
+                  bytes = drop (taken (r .bytes)) (r .bytes);
+                  hi = keyOf (r .bytes);
+                  run = (omega (arith, sum, g-is, r .long), (below, fine), (refl, refl));
+                  rest = rw (sum, ← drop-drop (z .key + z .value) (skip (r .bytes) + 4) (r .bytes)) (v .to (drop (skip (r .bytes) + 4) (r .bytes)) there);
+                  long = rw length-drop (omega (arith, sum, g-is, r .long));
+                  key = record { there = entry-key; most = most .most (keyOf (r .bytes)) entry-key };
+                })
 
 -- an entry that lies on one page: nothing is passed over, and it is within what is left
 pub record Within (at : Place) (left : ℕ) (z : Sizes) : Type 0 where

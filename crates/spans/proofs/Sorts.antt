@@ -12,9 +12,7 @@ use Rattle.blockfile.specs.Order.{nameRule, keyRule, bytesBelow, Rising}
 use Rattle.blockfile.proofs.Bools.{and-both, both-and}
 use Rattle.blockfile.proofs.Every.{every-so}
 use Rattle.laws.proofs.Orders.{keys-ordered}
-use Rattle.spans.specs.declared.Rule.{Rule}
-use Rattle.spans.specs.declared.Rule.the-variants.{Names, Keys}
-use Rattle.spans.specs.Spans.{ruleOf, sized}
+use Rattle.spans.specs.Spans.{Rule, Names, Keys, ruleOf, sized}
 use Rattle.spans.specs.Entries.{fits, Above, lastKey}
 
 -- ---- from above a key on

@@ -9,11 +9,10 @@ use Rattle.blockfile.specs.Bytes.{pg, Every}
 use Rattle.blockfile.specs.Layout.{Entry, Span, lensAt, entryEnd}
 use Rattle.blockfile.specs.Fields.{EntriesAt}
 use Rattle.blockfile.specs.WellFormed.{Piece, span, pagesOf, Bears}
-use Rattle.pages.specs.Claims.{Lent}
+use Rattle.heads.specs.Claims.{Lent}
 use Rattle.walks.specs.Found.{Fresh, claims, Found, FindsAt}
-use Rattle.walks.proofs.Founds.{zeros-most}
+use Rattle.walks.proofs.Founds.{lent-claims, unclaimed-claims, unclaimed-most}
 use Rattle.entries.specs.Places.{IsPage, streamOf}
-use Rattle.spans.specs.declared.Rule.{Rule}
 use Rattle.spans.specs.declared.claims.Claims.{Claims}
 use Rattle.spans.specs.declared.claims.Claims.the-variants.{Refused, Held}
 use Rattle.spans.specs.declared.entry.Last.{Last}
@@ -21,7 +20,8 @@ use Rattle.spans.specs.declared.span.Spanned.{Spanned}
 use Rattle.spans.specs.declared.span.Spanned.the-variants.{Wrong, Right}
 use Rattle.spans.specs.Entries.{lastKey, LastIs, Met}
 use Rattle.spans.specs.Parts.{held, PagesFound, SpanPages, withLinks, spanOn, SpanIs, ReadySpan, SpanSays, SpanRight, Reading, SpanFound, Answered, VerifiedAll}
-use Rattle.spans.proofs.PageClaims.{inside-fresh, zeros-claims}
+use Rattle.spans.proofs.PageClaims.{inside-fresh}
+use Rattle.spans.specs.Spans.{Rule}
 
 -- ---- one piece
 
@@ -82,10 +82,14 @@ module _ {img scr : List ℕ} {p : ℕ} (lent : Lent img scr) {a : Claims} {s : 
         conts = y .conts;
         pages = pages-of lent y;
         long = y .long;
-        few = omega (arith, y .long, zeros-most scr, lent .most, zeros-claims scr (p ∷ y .conts) (y .fresh));
+        few = omega (arith, y .long, unclaimed-most scr, lent .most, unclaimed-claims scr (p ∷ y .conts) (y .fresh));
         low = k .low;
         key = k .key;
       }
+
+  -- the scratch after the claims
+  pub verify-lent : {m : ℕ} → a ≡ Held m → Lent img s
+  verify-lent {m} e = let y : PagesFound img scr p m s = f .sound m e in subst (Lent img) (sym (y .left)) (lent-claims (p ∷ y .conts) lent)
 
   module _ {rule : Rule} {prev z : ℕ} where
     -- the span is on page p

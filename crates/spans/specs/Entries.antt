@@ -12,14 +12,13 @@ use Rattle.entries.specs.declared.place.Place.{Place}
 use Rattle.entries.specs.declared.place.Sizes.{Sizes}
 use Rattle.entries.specs.Places.{Rest}
 use Rattle.entries.specs.Keys.{KeyAt, lead}
-use Rattle.spans.specs.declared.Rule.{Rule}
 use Rattle.spans.specs.declared.entry.Last.{Last}
 use Rattle.spans.specs.declared.entry.Entered.{Entered}
 use Rattle.spans.specs.declared.entry.Entered.the-variants.{Bad, Read}
 use Rattle.spans.specs.declared.entry.Skimmed.{Skimmed}
 use Rattle.spans.specs.declared.entry.Tried.{Tried}
 use Rattle.spans.specs.declared.entry.Tried.the-variants.{Left, On}
-use Rattle.spans.specs.Spans.{ruleOf, sized}
+use Rattle.spans.specs.Spans.{Rule, ruleOf, sized}
 
 -- a key may stand in the table, with a value of v bytes
 abbrev pub fits : Rule → (k : List ℕ) (v : ℕ) → Bool

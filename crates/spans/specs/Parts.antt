@@ -11,14 +11,12 @@ use Rattle.blockfile.specs.Fields.{LinkedSpan, AreConts}
 use Rattle.blockfile.specs.WellFormed.{span, Bears, linkSpans}
 use Rattle.walks.specs.Found.{Fresh, claims, Found, FindsAt}
 use Rattle.entries.specs.Places.{IsPage}
-use Rattle.spans.specs.declared.Rule.{Rule}
 use Rattle.spans.specs.declared.claims.Claims.{Claims}
 use Rattle.spans.specs.declared.claims.Claims.the-variants.{Held}
 use Rattle.spans.specs.declared.entry.Last.{Last}
 use Rattle.spans.specs.declared.span.Spanned.{Spanned}
 use Rattle.spans.specs.declared.span.Spanned.the-variants.{Wrong, Right}
-use Rattle.spans.specs.declared.Counted.{Counted}
-use Rattle.spans.specs.Spans.{entriesIn, Counts, whole}
+use Rattle.spans.specs.Spans.{Rule, entriesIn, Counts}
 use Rattle.spans.specs.Entries.{fits, Above, lastKey, LastIs}
 use Rattle.spans.specs.Charts.{Charted}
 
@@ -148,13 +146,12 @@ pub record ChainFound (rule : Rule) (img scr : List ℕ) (z p prev : ℕ) (low :
   pub fine : Every (λ e. T (fits rule (e .key) (length (e .value)))) (entriesIn ss)
   pub found : Found img scr (map span (linkSpans z prev ss)) s
 
--- some keys and spans having been counted, the other spans of a table follow, none of them empty
-pub record RestFound (rule : Rule) (img scr : List ℕ) (z p prev : ℕ) (low : List ℕ) (keys spans : ℕ) (a : Counts) (s : List ℕ) : Type 0 where
+-- some keys and spans having been counted, from page p on stand further spans; only the first of all may be empty
+pub record SpansFrom (rule : Rule) (img scr : List ℕ) (z p prev : ℕ) (low : List ℕ) (keys spans : ℕ) (a : Counts) (s : List ℕ) : Type 0 where
+  pub here : Span
   pub others : List Span
-  pub chain : ChainFound rule img scr z p prev low others s
+  pub chain : ChainFound rule img scr z p prev low (here ∷ others) s
+  pub some : 1 ≤ spans → 1 ≤ length (here .entries)
   pub filled : Every (λ x. 1 ≤ length (x .entries)) others
-  pub keysAre : a .keys ≡ keys + length (entriesIn others)
-  pub spansAre : a .spans ≡ spans + length others
-
-pub record RestCounted (rule : Rule) (img scr : List ℕ) (z p prev : ℕ) (l : Last) (keys : ℕ) (r : Counted) (s : List ℕ) : Type 0 where
-  pub is : (low : List ℕ) → LastIs img l low → FindsAt whole (RestFound rule img scr z p prev low keys 1) r s
+  pub keysAre : a .keys ≡ keys + length (entriesIn (here ∷ others))
+  pub spansAre : a .spans ≡ spans + length (here ∷ others)

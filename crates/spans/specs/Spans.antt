@@ -10,10 +10,13 @@ use Rattle.blockfile.specs.Layout.{Entry, Span, reached}
 use Rattle.blockfile.specs.Order.{KeyRule, nameRule, keyRule, Rising}
 use Rattle.blockfile.specs.WellFormed.{span, linkSpans}
 use Rattle.walks.specs.Found.{Found}
-use Rattle.spans.specs.declared.Rule.{Rule}
-use Rattle.spans.specs.declared.Rule.the-variants.{Names, Keys}
 use Rattle.spans.specs.declared.Counted.{Counted}
 use Rattle.spans.specs.declared.Counted.the-variants.{Whole}
+
+-- which keys a table may hold: table names with four-byte values, or any key of 1 to 65,535 bytes
+pub data Rule : Type 0 where
+  Names : Rule
+  Keys : Rule
 
 -- the keys that a table may hold; those of a table other than the metaindex are the same for every name
 abbrev pub ruleOf : Rule → KeyRule

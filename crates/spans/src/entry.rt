@@ -1,13 +1,12 @@
-// The entries of a span: lengths that fit, keys that rise, keys and values as the table's rule has them.
+// The entries of a span: lengths that fit, keys that rise.
 ghost use Prim.Native.Nat.{_≤_};
 ghost use Rattle.entries.specs.Keys.{Key};
 ghost use Rattle.entries.specs.Places.{Moved, Measured};
+ghost use Rattle.spans.specs.Spans.{Keys};
 ghost use Rattle.spans.specs.Charts.{Spread};
-ghost use Rattle.spans.specs.Entries.{Met, IsAbove, Allowed, Whole, Ready, Entering, Tries, Skims};
-use crate::Rule;
+ghost use Rattle.spans.specs.Entries.{Met, IsAbove, Whole, Ready, Entering, Tries, Skims};
 use entries::key::Order;
 use entries::key::compare_keys;
-use entries::key::printable;
 use entries::place::Place;
 use entries::place::Sizes;
 use entries::place::gap;
@@ -41,25 +40,6 @@ pub struct Skimmed {
     pub at: Place,
     pub left: usize,
     pub last: Last,
-}
-
-// Whether a key may stand in the table, with a value of that length.
-pub fn allowed(image: &[u8], at: Place, key: usize, value: usize, rule: Rule) -> bool
-    requires { ⌜ Key (now image) at key × (1 ≤ key) × (key ≤ 65535) × (value ≤ 65535) ⌝ }
-    ensures { λ r. ⌜ Allowed rule (now (image .entry)) at key value r ⌝ }
-{
-    match rule {
-        Rule::Keys => true,
-        Rule::Names => {
-            if value != 4 {
-                return false;
-            }
-            if 255 < key {
-                return false;
-            }
-            printable(image, at, key)
-        }
-    }
 }
 
 // Whether a key is above the last key met.
@@ -101,10 +81,9 @@ fn verify_entry(
     at: Place,
     left: usize,
     last: Last,
-    rule: Rule,
 ) -> Entered
     requires { ⌜ Ready (now image) at left last × Spread (now image) (now chart) more at left ⌝ }
-    ensures { λ r. ⌜ Entering rule (now (image .entry)) at last 1 r ⌝ }
+    ensures { λ r. ⌜ Entering Keys (now (image .entry)) at last 1 r ⌝ }
 {
     let offset = at.offset;
     let skipped = gap(offset, 4);
@@ -122,9 +101,6 @@ fn verify_entry(
     if !above(image, last, start, key) {
         return Entered::Bad;
     }
-    if !allowed(image, start, key, value, rule) {
-        return Entered::Bad;
-    }
     let after = leap(image, chart, more, start, left - skipped - 4, both);
     let prefix = prefix_most(image, start, key);
     Entered::Read(
@@ -140,9 +116,9 @@ fn verify_entry(
 
 // Reads the entry that follows, of these lengths, which lies on one page with eight bytes from the start of its key on: if its
 // prefix is above the last key's, and else leaves it.
-fn try_entry(image: &[u8], at: Place, left: usize, sizes: Sizes, last: Last, rule: Rule) -> Tried
+fn try_entry(image: &[u8], at: Place, left: usize, sizes: Sizes, last: Last) -> Tried
     requires { ⌜ Ready (now image) at left last × Measured (now image) at sizes × Whole at sizes ⌝ }
-    ensures { λ r. ⌜ Tries rule (now (image .entry)) at last r ⌝ }
+    ensures { λ r. ⌜ Tries Keys (now (image .entry)) at last r ⌝ }
 {
     let start = sizes.after;
     let key = sizes.key;
@@ -153,9 +129,6 @@ fn try_entry(image: &[u8], at: Place, left: usize, sizes: Sizes, last: Last, rul
     }
     let prefix = prefix(image, start, key);
     if prefix <= last.prefix {
-        return Tried::Left;
-    }
-    if !allowed(image, start, key, value, rule) {
         return Tried::Left;
     }
     let after = place_after(image, start, both);
@@ -171,9 +144,9 @@ fn try_entry(image: &[u8], at: Place, left: usize, sizes: Sizes, last: Last, rul
 }
 
 // Reads entries, at most `size` of them, up to one that does not lie on the page whole or whose prefix does not tell its order.
-fn skim(image: &[u8], at: Place, left: usize, size: usize, last: Last, rule: Rule) -> Skimmed
+fn skim(image: &[u8], at: Place, left: usize, size: usize, last: Last) -> Skimmed
     requires { ⌜ Ready (now image) at left last ⌝ }
-    ensures { λ r. ⌜ Skims rule (now (image .entry)) at last size r ⌝ }
+    ensures { λ r. ⌜ Skims Keys (now (image .entry)) at last size r ⌝ }
 {
     let mut here = at;
     let mut rest = left;
@@ -188,7 +161,7 @@ fn skim(image: &[u8], at: Place, left: usize, size: usize, last: Last, rule: Rul
         if 1020 - offset < sizes.key + sizes.value {
             break;
         }
-        let Tried::On(p, l, k) = try_entry(image, here, rest, sizes, key, rule) else {
+        let Tried::On(p, l, k) = try_entry(image, here, rest, sizes, key) else {
             break;
         };
         here = p;
@@ -213,24 +186,23 @@ pub fn verify_entries(
     left: usize,
     size: usize,
     last: Last,
-    rule: Rule,
 ) -> Entered
     requires { ⌜ Ready (now image) at left last × Spread (now image) (now chart) more at left ⌝ }
-    ensures { λ r. ⌜ Entering rule (now (image .entry)) at last size r ⌝ }
+    ensures { λ r. ⌜ Entering Keys (now (image .entry)) at last size r ⌝ }
 {
     let mut here = at;
     let mut rest = left;
     let mut key = last;
     let mut i = 0;
     while i < size {
-        let s = skim(image, here, rest, size - i, key, rule);
+        let s = skim(image, here, rest, size - i, key);
         let n = s.count;
         let p = s.at;
         let k = s.last;
         if size - i <= n {
             return Entered::Read(p, s.left, k);
         }
-        let Entered::Read(q, m, h) = verify_entry(image, chart, more, p, s.left, k, rule) else {
+        let Entered::Read(q, m, h) = verify_entry(image, chart, more, p, s.left, k) else {
             return Entered::Bad;
         };
         here = q;

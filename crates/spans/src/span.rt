@@ -2,19 +2,19 @@
 ghost use mathlib.Core.Path.{_≡_};
 ghost use lib.ListN.{length};
 ghost use Rattle.blockfile.specs.Bytes.{pg, be32};
-ghost use Rattle.pages.specs.Claims.{Lent};
+ghost use Rattle.heads.specs.Claims.{Lent};
+ghost use Rattle.spans.specs.Spans.{Keys};
 ghost use Rattle.spans.specs.Charts.{Charted};
 ghost use Rattle.spans.specs.Entries.{Met};
 ghost use Rattle.spans.specs.Parts.{ReadySpan, Reading, VerifiedAll};
-use crate::Rule;
 use crate::claims::Claims;
 use crate::claims::claim_span;
 use crate::entry::Entered;
 use crate::entry::Last;
 use crate::entry::verify_entries;
 use entries::place::Place;
+use heads::claim::link;
 use pages::read::get16;
-use pages::read::get32;
 
 // The answer for a span: wrong, or right with the number of its entries, the next span's page and the last key met.
 pub enum Spanned {
@@ -26,18 +26,18 @@ pub enum Spanned {
 // bytes than a page holds are left after the entries.
 fn read_span(
     image: &[u8],
+    scratch: &[u8],
     chart: &[u16],
     page: usize,
     more: usize,
     previous: usize,
     most: usize,
     last: Last,
-    rule: Rule,
 ) -> Spanned
-    requires { ⌜ ReadySpan (now image) page more last × Charted (now image) (be32 (pg (now image) page) 4) more (now chart) ⌝ }
-    ensures { λ r. ⌜ Reading rule (now (image .entry)) page previous most last r ⌝ }
+    requires { ⌜ Lent (now image) (now scratch) × ReadySpan (now image) page more last × Charted (now image) (be32 (pg (now image) page) 4) more (now chart) ⌝ }
+    ensures { λ r. ⌜ Reading Keys (now (image .entry)) page previous most last r ⌝ }
 {
-    if get32(image, page, 8) != previous {
+    if link(scratch, page, 8) != previous {
         return Spanned::Wrong;
     }
     if get16(image, page, 16) != most {
@@ -56,14 +56,13 @@ fn read_span(
         1004 + 1016 * more,
         size,
         last,
-        rule,
     ) else {
         return Spanned::Wrong;
     };
     if 1016 <= left {
         return Spanned::Wrong;
     }
-    let next = get32(image, page, 12);
+    let next = link(scratch, page, 12);
     Spanned::Right(size, next, key)
 }
 
@@ -77,13 +76,12 @@ pub fn verify_span(
     previous: usize,
     most: usize,
     last: Last,
-    rule: Rule,
 ) -> Spanned
     requires { ⌜ Lent (now image) (now scratch) × (length (now chart) ≡ 256) × Met (now image) last ⌝ }
-    ensures { λ r. ⌜ VerifiedAll rule (now (image .entry)) (now (scratch .entry)) page previous most last r (now (scratch .exit)) ⌝ }
+    ensures { λ r. ⌜ VerifiedAll Keys (now (image .entry)) (now (scratch .entry)) page previous most last r (now (scratch .exit)) ⌝ }
 {
-    let Claims::Held(more) = claim_span(image, scratch, chart, page) else {
+    let Claims::Held(more) = claim_span(scratch, chart, page) else {
         return Spanned::Wrong;
     };
-    read_span(image, chart, page, more, previous, most, last, rule)
+    read_span(image, scratch, chart, page, more, previous, most, last)
 }

@@ -14,7 +14,7 @@ use blockfile::Refusal;
 use blockfile::Wrote;
 use change::Request;
 use change::change;
-use pages::claim::clear;
+use pages::write::clear;
 use refusals::answer::hand_over;
 use refusals::open::Opened;
 use refusals::open::open;

@@ -15,16 +15,17 @@ use Rattle.blockfile.specs.Layout.{Span, Tower, Column, spansOf, towersOf}
 use Rattle.blockfile.specs.Fields.{LinkedTower, IsTower}
 use Rattle.blockfile.specs.WellFormed.{Piece, tower, Bears, nextAt, linkTowers}
 use Rattle.laws.proofs.Chains.{entry-at, at-entries}
-use Rattle.pages.specs.Claims.{claimable, claimed, Claimed}
-use Rattle.pages.proofs.Marks.{begins-take, take-begins}
+use Rattle.heads.specs.Claims.{Lent, claimable, claimed, Claimed, linkAt}
+use Rattle.heads.proofs.Claims.{lent-claimed}
+use Rattle.heads.proofs.Marks.{begins-take, take-begins}
 use Rattle.walks.specs.declared.Walked.{Walked}
 use Rattle.walks.specs.declared.Walked.the-variants.{Refused, Done}
-use Rattle.walks.specs.Found.{Open, zeros, Found, Decides, FindsAt}
-use Rattle.walks.proofs.Founds.{SameAt, same-start, same-turn, finds-none, finds-done, done-injective, refused-never, found-none, claimable-open, zeros-claimed, length-claimed}
+use Rattle.walks.specs.Found.{Open, unclaimed, Found, Decides, FindsAt}
+use Rattle.walks.proofs.Founds.{SameAt, same-start, same-turn, finds-none, finds-done, done-injective, refused-never, found-none, claimable-open, unclaimed-claimed, length-claimed}
 use Rattle.walks.proofs.Pieces.{Single, found-claimable, found-rest, found-cons, claim-done, claim-not}
 use Rattle.towers.specs.Climb.{levelAt, AllAre, entryAt, Followed, nextSpan, Way, Linked, Reach, Tall, spanUnder, TowerFound, Placed, ClimbOn, Climb}
 use Rattle.towers.proofs.Levels.{lowest-is}
-use Rattle.towers.proofs.Ways.{reach-linked}
+use Rattle.towers.proofs.Ways.{next-is, reach-linked}
 
 -- ---- One tower
 
@@ -56,6 +57,9 @@ module _ (img scr : List ℕ) (lo hi n : ℕ) (r : Bool) (s : List ℕ) (c : Cla
 
 pub found-open : (img scr : List ℕ) (lo hi n m : ℕ) (out : List ℕ) → TowerFound img scr lo hi n m out → Open scr n
 found-open img scr lo hi n m out f = claimable-open img scr n 2 (f .can) .0
+
+pub found-lent : (img scr : List ℕ) (lo hi n m : ℕ) (out : List ℕ) → TowerFound img scr lo hi n m out → Lent img scr → Lent img out
+found-lent img scr lo hi n m out f l = subst (Lent img) (sym (f .left)) (lent-claimed n l)
 
 -- ---- A tower on its span
 
@@ -263,18 +267,20 @@ climb-end img scr top levels p j k h =
 -- the loop over the towers: the next one is on page n, its span is p or comes after it, and `count` are found
 pub record Climbing (img scr₀ : List ℕ) (head top start : ℕ) (scr levels : List ℕ) (p count n : ℕ) : Type 0 where
   pub long : length scr ≡ length scr₀
+  pub lent : Lent img scr
   pub wide : length levels ≡ 1024
   pub lowest : levelAt levels 0 ≡ n
   pub topped : (n ≡ 0 → ⊥) → 1 ≤ top
-  pub used : count + zeros scr ≡ 1 + zeros scr₀
+  pub used : count + unclaimed scr ≡ 1 + unclaimed scr₀
   pub linked : Linked img p
   pub same : SameAt (Climb img scr top p (levelAt levels) count) (Climb img scr₀ top start (entryAt img head) 1)
 
-pub climbing-start : (img scr : List ℕ) (head top start : ℕ) (levels out : List ℕ) → Linked img start → length levels ≡ 1024 → levelAt levels 0 ≡ 0
+pub climbing-start : (img scr : List ℕ) (head top start : ℕ) (levels out : List ℕ) → Lent img scr → Linked img start → length levels ≡ 1024 → levelAt levels 0 ≡ 0
     → Followed img head top levels out → (low : ℕ) → low ≡ be32 (pg out 1) 16 → Climbing img scr head top start scr out start 1 low
-climbing-start img scr head top start levels out k w z f low e =
+climbing-start img scr head top start levels out lent k w z f low e =
     record {
       long = refl;
+      lent = lent;
       wide = f .long ∙ w;
       lowest = lowest-is out low e;
       topped = λ ne. by-cases (decLt 0 top) (λ l. l) (λ l. absurd (ne (sym (lowest-is out low e) ∙ f .above 0 (omega arith) ∙ z)));
@@ -289,10 +295,11 @@ climbing-start img scr head top start levels out k w z f low e =
 -- what the code needs of a turn that goes on: a tower of height k was claimed on page n
 pub record Turn (img scr : List ℕ) (top n k : ℕ) (out : List ℕ) : Type 0 where
   pub page : Open scr n
+  pub lent : Lent img out
   pub spanLow : 1 ≤ spanUnder img n
   pub spanHigh : 1024 * spanUnder img n ≤ length img
   pub tall : k ≤ top
-  pub falls : zeros scr ≡ suc (zeros out)
+  pub falls : unclaimed scr ≡ suc (unclaimed out)
 
 module _ (img scr₀ : List ℕ) (head top start : ℕ) (scr levels : List ℕ) (p count n : ℕ) (v : Climbing img scr₀ head top start scr levels p count n) where
   abbrev ClimbIs : Walked → List ℕ → Type 0
@@ -325,10 +332,11 @@ module _ (img scr₀ : List ℕ) (head top start : ℕ) (scr levels : List ℕ) 
           let o = found-open img scr 1 top n k s (x .found) in
           record {
             page = o;
+            lent = found-lent img scr 1 top n k s (x .found) (v .lent);
             spanLow = x .reach .low;
             spanHigh = x .reach .high;
             tall = x .found .tall .high;
-            falls = zeros-claimed scr n o ∙ ap (λ (t : List ℕ). suc (zeros t)) (sym (x .found .left));
+            falls = unclaimed-claimed scr n o ∙ ap (λ (t : List ℕ). suc (unclaimed t)) (sym (x .found .left));
           }
 
       same-next : (out : List ℕ) → Followed img n k levels out
@@ -344,18 +352,19 @@ module _ (img scr₀ : List ℕ) (head top start : ℕ) (scr levels : List ℕ) 
                 (x .more out (subst (λ (y : ℕ). Followed img n y levels out) h f));
           }
 
-      pub climbing-next : (out : List ℕ) → Followed img n k levels out → (span next : ℕ) → span ≡ spanUnder img n → next ≡ nextSpan img span
-          → (low : ℕ) → low ≡ be32 (pg out 1) 16 → Climbing img scr₀ head top start s out next (count + 1) low
+      pub climbing-next : (out : List ℕ) → Followed img n k levels out → (span next : ℕ) → span ≡ spanUnder img n → next ≡ linkAt s span 12
+          → (low : ℕ) → low ≡ be32 (pg img n) 16 → Climbing img scr₀ head top start s out next (count + 1) low
       climbing-next out f span next e₁ e₂ low l =
           let t = climbing-turn in
           let x = b .sound k e in
-          rw (e₂, e₁)
+          rw (e₂, e₁, next-is (t .lent) (spanUnder img n) (t .spanLow) (t .spanHigh))
           (record {
             long = ap length (x .found .left) ∙ length-claimed scr n ∙ v .long;
+            lent = t .lent;
             wide = f .long ∙ v .wide;
-            lowest = lowest-is out low l;
+            lowest = f .below 0 (omega (arith, x .found .tall .low)) ∙ sym l;
             topped = λ _. v .topped z;
             used = omega (arith, t .falls, v .used);
-            linked = reach-linked img p (spanUnder img n) (v .linked) (x .reach);
+            linked = reach-linked (v .lent) p (spanUnder img n) (v .linked) (x .reach);
             same = same-turn (same-next out f) (v .same);
           })

@@ -11,15 +11,15 @@ use Rattle.blockfile.specs.Fields.{LinkedTower, IsTower}
 use Rattle.blockfile.specs.WellFormed.{Piece, span, tower, pagesOf, Bears, nextAt, linkSpans, linkTowers}
 use Rattle.blockfile.proofs.Every.{every-so, every-both}
 use Rattle.laws.proofs.Chains.{entry-at}
-use Rattle.pages.specs.Claims.{Lent, claimed}
+use Rattle.heads.specs.Claims.{Lent, claimed, linkAt, Linking}
 use Rattle.walks.specs.declared.Walked.{Walked}
 use Rattle.walks.specs.declared.Walked.the-variants.{Refused, Done}
 use Rattle.walks.specs.Found.{Open, Fresh, claims, Found, FindsAt}
-use Rattle.walks.proofs.Founds.{same-start, finds-none, finds-same, done-injective, refused-never, fresh-right, length-claims, zeros-claims, zeros-most}
+use Rattle.walks.proofs.Founds.{same-start, finds-none, finds-same, done-injective, refused-never, fresh-right, length-claims, unclaimed-claims, unclaimed-most}
 use Rattle.walks.proofs.Pieces.{found-claimable, found-rest, found-cons}
 use Rattle.towers.specs.Towers.{Spanned, TowersFound}
 use Rattle.towers.specs.Climb.{entryAt, nextSpan, Way, Linked, Tall, spanUnder, TowerFound, Climb}
-use Rattle.towers.proofs.Ways.{way-unique}
+use Rattle.towers.proofs.Ways.{next-is, way-unique}
 use Rattle.towers.proofs.Climbs.{tower-single, raised, towerAt, tower-bears}
 
 -- ---- Spans that were verified
@@ -42,6 +42,19 @@ module _ (img : List ℕ) (p z : ℕ) (s : Span) (others : List Span) (sp : Span
   pub others-way : Way img (nextSpan img p) 0 (pages others)
   others-way = subst (λ (q : ℕ). Way img (nextSpan img q) 0 (pages others)) (sp .here) (spans-way img z 0 (s ∷ others) (sp .bears) (sp .inside) .3)
 
+  -- the first span is on a page of the image, and its head has its next link
+  pub first-linking : {scr : List ℕ} → Lent img scr → Linking scr p 12
+  first-linking lent =
+      record {
+        small = lent .most;
+        low = subst (λ (q : ℕ). 1 ≤ q) (sp .here) (sp .inside .0 .0);
+        high = omega (arith, lent .size, sp .here, sp .inside .0 .1);
+        fits = omega arith;
+      }
+
+  pub first-next : {scr : List ℕ} → Lent img scr → linkAt scr p 12 ≡ nextSpan img p
+  first-next lent = let l = first-linking lent in next-is lent p (l .low) (omega (arith, lent .size, l .high))
+
   pub others-linked : (q : ℕ) → q ≡ nextSpan img p → Linked img q
   others-linked q e =
       let l : length (pages others) ≡ length others = length-pages others in
@@ -49,7 +62,7 @@ module _ (img : List ℕ) (p z : ℕ) (s : Span) (others : List Span) (sp : Span
 
 -- spans that were found are such spans
 span-inside : (scr : List ℕ) (n z p : ℕ) (ss : List Span) → length scr ≡ n → Fresh scr (gather pagesOf (map span (linkSpans z p ss)))
-    → Every (λ s. (1 ≤ s .page) × (1024 * s .page ≤ 1024 * n)) ss
+    → Every (λ s. (1 ≤ s .page) × (1024 * s .page ≤ 64 * n)) ss
 span-inside scr n z p [] e f = tt
 span-inside scr n z p (s ∷ ss) e f =
     let o : Open scr (s .page) = f .0 in (
@@ -72,7 +85,7 @@ spans-found img scr out p z s others l f e =
       here = e;
       bears = f .bears;
       inside = rw (l .size) (span-inside scr (length scr) z 0 (s ∷ others) refl (f .fresh));
-      few = omega (arith, l .size, span-few z 0 (s ∷ others), zeros-claims scr ns (f .fresh), zeros-most scr);
+      few = omega (arith, l .size, span-few z 0 (s ∷ others), unclaimed-claims scr ns (f .fresh), unclaimed-most scr);
     }
 
 -- ---- The same towers, on other spans on the same pages

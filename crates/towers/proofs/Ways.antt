@@ -7,21 +7,27 @@ use mathlib.Core.List.{List, [], _∷_}
 use lib.ListN.{length}
 use lib.Dec.{eqb}
 use borrow.Author.Tests.{eq-eqb, ne-eqb}
+use Rattle.heads.specs.Claims.{Lent, linkAt}
+use Rattle.heads.proofs.Claims.{link-is}
 use Rattle.walks.specs.Found.{Decides}
 use Rattle.walks.proofs.Founds.{decides-true, decides-false}
 use Rattle.towers.specs.Climb.{nextSpan, Way, Linked, Reach}
 
--- how many spans there are from page p on, f at most
-unfoldable pub steps : (img : List ℕ) (f p : ℕ) → ℕ
-steps img zero p = 0
-steps img (suc f) p = cond (eqb p 0) 0 (suc (steps img f (nextSpan img p)))
+-- how many spans there are from page p on, f at most, by the links of the heads
+unfoldable pub steps : (scr : List ℕ) (f p : ℕ) → ℕ
+steps scr zero p = 0
+steps scr (suc f) p = cond (eqb p 0) 0 (suc (steps scr f (linkAt scr p 12)))
 
-steps-way : (img : List ℕ) (f : ℕ) (l : List ℕ) (p : ℕ) → Way img p 0 l → length l ≤ f → steps img f p ≡ length l
-unfolding steps
-steps-way img zero [] p w h = refl
-steps-way img zero (q ∷ l) p w h = absurd (omega arith)
-steps-way img (suc f) [] p w h = rw (eq-eqb p 0 w)
-steps-way img (suc f) (q ∷ l) p (e, lo, hi, w) h = rw (e, ne-eqb q 0 (omega arith)) (ap suc (steps-way img f l (nextSpan img q) w (omega arith)))
+module _ {img scr : List ℕ} (lent : Lent img scr) where
+  pub next-is : (p : ℕ) → 1 ≤ p → 1024 * p ≤ length img → linkAt scr p 12 ≡ nextSpan img p
+  next-is p lo hi = link-is lent p lo (omega (arith, lent .size)) 12 (omega arith) (omega arith)
+
+  steps-way : (f : ℕ) (l : List ℕ) (p : ℕ) → Way img p 0 l → length l ≤ f → steps scr f p ≡ length l
+  unfolding steps
+  steps-way zero [] p w h = refl
+  steps-way zero (q ∷ l) p w h = absurd (omega arith)
+  steps-way (suc f) [] p w h = rw (eq-eqb p 0 w)
+  steps-way (suc f) (q ∷ l) p (e, lo, hi, w) h = rw (e, ne-eqb q 0 (omega arith), next-is q lo hi) (ap suc (steps-way f l (nextSpan img q) w (omega arith)))
 
 -- the next links from p on are passed in one way
 pub way-unique : (img : List ℕ) (l k : List ℕ) (p : ℕ) → Way img p 0 l → Way img p 0 k → l ≡ k
@@ -32,34 +38,38 @@ way-unique img (x ∷ l) (y ∷ k) p (e, lo, hi, v) (d, lo′, hi′, w) =
     let s : x ≡ y = sym e ∙ d in
     ap₂ (λ (a : ℕ) (as′ : List ℕ). a ∷ as′) s (way-unique img l k (nextSpan img x) v (subst (λ (a : ℕ). Way img (nextSpan img a) 0 k) (sym s) w))
 
--- a span: it is on a page of the image, and the spans after it are fewer
-pub record Next (img : List ℕ) (p : ℕ) : Type 0 where
+-- a span: it is on a page of the image, its head has its next link, and the spans after it are fewer
+pub record Next (img scr : List ℕ) (p : ℕ) : Type 0 where
   pub low : 1 ≤ p
   pub high : 1024 * p ≤ length img
+  pub link : linkAt scr p 12 ≡ nextSpan img p
   pub more : Linked img (nextSpan img p)
-  pub fewer : steps img (length img) p ≡ suc (steps img (length img) (nextSpan img p))
+  pub fewer : steps scr (length scr) p ≡ suc (steps scr (length scr) (nextSpan img p))
 
-pub next-span : (img : List ℕ) (p : ℕ) → Linked img p → (p ≡ 0 → ⊥) → Next img p
-next-span img p k z = go (k .passed) (k .way) (k .few)
-  where
-    go : (l : List ℕ) → Way img p 0 l → 1024 * length l ≤ length img → Next img p
-    go [] w h = absurd (z w)
-    go (q ∷ l) (e, lo, hi, w) h =
-        let v : Way img (nextSpan img p) 0 l = subst (λ (x : ℕ). Way img (nextSpan img x) 0 l) (sym e) w in
-        record {
-          low = omega arith;
-          high = omega arith;
-          more = record { passed = l; way = v; few = omega arith };
-          fewer = omega (arith, steps-way img (length img) (q ∷ l) p (e, lo, hi, w) (omega arith), steps-way img (length img) l (nextSpan img p) v (omega arith));
-        }
+module _ {img scr : List ℕ} (lent : Lent img scr) where
+  pub next-span : (p : ℕ) → Linked img p → (p ≡ 0 → ⊥) → Next img scr p
+  next-span p k z = go (k .passed) (k .way) (k .few)
+    where
+      go : (l : List ℕ) → Way img p 0 l → 1024 * length l ≤ length img → Next img scr p
+      go [] w h = absurd (z w)
+      go (q ∷ l) (e, lo, hi, w) h =
+          let v : Way img (nextSpan img p) 0 l = subst (λ (x : ℕ). Way img (nextSpan img x) 0 l) (sym e) w in
+          let f : suc (length l) ≤ length scr = omega (arith, lent .size) in
+          record {
+            low = omega arith;
+            high = omega arith;
+            link = next-is lent p (omega arith) (omega arith);
+            more = record { passed = l; way = v; few = omega arith };
+            fewer = steps-way lent (length scr) (q ∷ l) p (e, lo, hi, w) f ∙ ap suc (sym (steps-way lent (length scr) l (nextSpan img p) v (omega arith)));
+          }
 
--- the spans after one that is reached
-pub reach-linked : (img : List ℕ) (p q : ℕ) → Linked img p → Reach img p q → Linked img (nextSpan img q)
-reach-linked img p q k r = go (r .passed) p (r .way) k
-  where
-    go : (l : List ℕ) (p : ℕ) → Way img p q l → Linked img p → Linked img (nextSpan img q)
-    go [] p w k = next-span img q (subst (Linked img) w k) (λ z. omega (arith, r .low)) .more
-    go (x ∷ l) p (e, lo, hi, w) k = go l (nextSpan img x) w (next-span img x (subst (Linked img) e k) (λ z. omega arith) .more)
+  -- the spans after one that is reached
+  pub reach-linked : (p q : ℕ) → Linked img p → Reach img p q → Linked img (nextSpan img q)
+  reach-linked p q k r = go (r .passed) p (r .way) k
+    where
+      go : (l : List ℕ) (p : ℕ) → Way img p q l → Linked img p → Linked img (nextSpan img q)
+      go [] p w k = next-span q (subst (Linked img) w k) (λ z. omega (arith, r .low)) .more
+      go (x ∷ l) p (e, lo, hi, w) k = go l (nextSpan img x) w (next-span x (subst (Linked img) e k) (λ z. omega arith) .more)
 
 -- the loop along the spans, which is at p: what is one of the spans from here on is one from the start on, and back
 pub record Reaching (img : List ℕ) (start target p : ℕ) : Type 0 where
@@ -70,7 +80,7 @@ pub record Reaching (img : List ℕ) (start target p : ℕ) : Type 0 where
 pub reaching-start : (img : List ℕ) (start target : ℕ) → Linked img start → Reaching img start target start
 reaching-start img start target k = record { linked = k; to = λ r. r; back = λ r. r }
 
-module _ (img : List ℕ) (start target p : ℕ) (v : Reaching img start target p) where
+module _ {img scr : List ℕ} (lent : Lent img scr) (start target p : ℕ) (v : Reaching img start target p) where
   pub reaching-end : p ≡ 0 → Decides (Reach img start target) false
   reaching-end z = decides-false (λ r. let s = v .back r in go (s .passed) (s .way) (s .low))
     where
@@ -81,15 +91,15 @@ module _ (img : List ℕ) (start target p : ℕ) (v : Reaching img start target 
   module _ (z : p ≡ 0 → ⊥) where
     pub reaching-here : p ≡ target → Decides (Reach img start target) true
     reaching-here e =
-        let n = next-span img p (v .linked) z in
+        let n = next-span lent p (v .linked) z in
         let l : 1 ≤ target = subst (λ (x : ℕ). 1 ≤ x) e (n .low) in
         let h : 1024 * target ≤ length img = subst (λ (x : ℕ). 1024 * x ≤ length img) e (n .high) in
         decides-true (v .to (record { passed = []; way = e; low = l; high = h }))
 
-    pub reaching-next : (p ≡ target → ⊥) → (m : ℕ) → m ≡ nextSpan img p → Reaching img start target m
+    pub reaching-next : (p ≡ target → ⊥) → (m : ℕ) → m ≡ linkAt scr p 12 → Reaching img start target m
     reaching-next ne m is =
-        let n = next-span img p (v .linked) z in
-        rw is (record {
+        let n = next-span lent p (v .linked) z in
+        rw (is, n .link) (record {
           linked = n .more;
           to = λ r. v .to (record { passed = p ∷ r .passed; way = (refl, n .low, n .high, r .way); low = r .low; high = r .high });
           back = λ r. let s = v .back r in go (s .passed) (s .way) (s .low) (s .high);

@@ -8,7 +8,7 @@ use Rattle.blockfile.specs.Bytes.{pg, be16, be32, Every}
 use Rattle.blockfile.specs.Layout.{Column, spansOf, towersOf}
 use Rattle.blockfile.specs.Order.{Within}
 use Rattle.blockfile.specs.WellFormed.{tower, nextAt, linkTowers}
-use Rattle.pages.specs.Claims.{claimable, claimed}
+use Rattle.heads.specs.Claims.{Lent, claimable, claimed}
 use Rattle.walks.specs.Found.{Found}
 
 -- ---- Levels: the tower expected at each level, as an entry of a tower's page
@@ -49,6 +49,12 @@ pub record Linked (img : List ℕ) (p : ℕ) : Type 0 where
   pub passed : List ℕ
   pub way : Way img p 0 passed
   pub few : 1024 * length passed ≤ length img
+
+-- the scratch has the heads of an image whose next links lead from p to 0
+pub record HasWay (scr : List ℕ) (p : ℕ) : Type 0 where
+  pub image : List ℕ
+  pub lent : Lent image scr
+  pub linked : Linked image p
 
 -- q is one of the spans from p on
 pub record Reach (img : List ℕ) (p q : ℕ) : Type 0 where

@@ -5,12 +5,13 @@ ghost use mathlib.Core.List.{List};
 ghost use lib.ListN.{length};
 ghost use Rattle.blockfile.specs.Layout.{Span};
 ghost use Rattle.pages.specs.Places.{Inside};
-ghost use Rattle.pages.specs.Claims.{Lent};
+ghost use Rattle.heads.specs.Claims.{Lent};
 ghost use Rattle.walks.specs.Found.{Decides, FindsAt};
 ghost use Rattle.walks.specs.declared.Walked.the-variants.{Done};
 ghost use Rattle.towers.specs.Towers.{Spanned, HasSpans, TowersFound};
-ghost use Rattle.towers.specs.Climb.{Repeats, AllAre, Followed, Linked, Reach, Tall, TowerFound, Placed, Climb, entryAt};
-use pages::claim::claim;
+ghost use Rattle.towers.specs.Climb.{Repeats, AllAre, Followed, Linked, HasWay, Reach, Tall, TowerFound, Placed, Climb, entryAt};
+use heads::claim::claim;
+use heads::claim::link;
 use pages::mark::TOWER;
 use pages::read::get16;
 use pages::read::get32;
@@ -60,17 +61,17 @@ fn follow(image: &[u8], levels: &mut [u8], page: usize, height: usize)
     put_bytes(levels, 1, 16, &image[at..end])
 }
 
-// Whether `target` is one of the spans from `start` on.
-fn reaches(image: &[u8], start: usize, target: usize) -> bool
-    requires { ⌜ (length (now image) ≤ 4194304) × Linked (now image) start ⌝ }
-    ensures { λ r. ⌜ Decides (Reach (now (image .entry)) start target) r ⌝ }
+// Whether `target` is one of the spans from `start` on. The links are those of the heads, which stand close together.
+fn reaches(scratch: &[u8], start: usize, target: usize) -> bool
+    requires { ⌜ HasWay (now scratch) start ⌝ }
+    ensures { λ r. ⌜ ((img : List ℕ) → Lent img (now (scratch .entry)) → Linked img start → Decides (Reach img start target) r) ⌝ }
 {
     let mut span = start;
     while span != 0 {
         if span == target {
             return true;
         }
-        span = get32(image, span, 12);
+        span = link(scratch, span, 12);
     }
     false
 }
@@ -91,7 +92,7 @@ fn claim_tower(image: &[u8], scratch: &mut [u8], page: usize, low: usize, high: 
     requires { ⌜ Lent (now image) (now scratch) ⌝ }
     ensures { λ r. ⌜ FindsAt Done (TowerFound (now (image .entry)) (now (scratch .entry)) low high page) r (now (scratch .exit)) ⌝ }
 {
-    if !claim(image, scratch, page, TOWER) {
+    if !claim(scratch, page, TOWER) {
         return Walked::Refused;
     }
     let height = get16(image, page, 10);
@@ -118,7 +119,7 @@ fn place_tower(
         return Walked::Refused;
     };
     let span = get32(image, page, 12);
-    if !reaches(image, start, span) {
+    if !reaches(scratch, start, span) {
         return Walked::Refused;
     }
     if !all_are(levels, height, page) {
@@ -129,7 +130,7 @@ fn place_tower(
 
 // Claims the towers of the spans from `start` on, where the first `top` entries of the head lead to them; answers their
 // number and 1, for the head. Each turn claims a tower, and each span is passed once in all. With `top` 0 no tower is
-// expected, and there is none.
+// expected, and there is none. The next tower is read from this one's page and not from the levels, which takes less long.
 fn claim_others(image: &[u8], scratch: &mut [u8], head: usize, top: usize, start: usize) -> Walked
     requires { ⌜ Lent (now image) (now scratch) × Inside (now image) head 16 (4 * top) × Linked (now image) start ⌝ }
     ensures { λ r. ⌜ FindsAt Done (Climb (now (image .entry)) (now (scratch .entry)) top start (entryAt (now (image .entry)) head) 1) r (now (scratch .exit)) ⌝ }
@@ -145,9 +146,9 @@ fn claim_others(image: &[u8], scratch: &mut [u8], head: usize, top: usize, start
         };
         follow(image, &mut levels, page, height);
         let span = get32(image, page, 12);
-        next = get32(image, span, 12);
+        next = link(scratch, span, 12);
         count += 1;
-        page = get32(&levels, 1, 16);
+        page = get32(image, page, 16);
     }
     if !all_are(&levels, top, 0) {
         return Walked::Refused;
@@ -168,6 +169,6 @@ pub fn verify_towers(image: &[u8], scratch: &mut [u8], head: usize, first: usize
     if get32(image, head, 12) != first {
         return Walked::Refused;
     }
-    let start = get32(image, first, 12);
+    let start = link(scratch, first, 12);
     claim_others(image, scratch, head, top, start)
 }

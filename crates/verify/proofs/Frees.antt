@@ -10,13 +10,13 @@ use Rattle.blockfile.specs.Marks.{blockMark, freeMark}
 use Rattle.blockfile.specs.Layout.{Block, freeCount}
 use Rattle.blockfile.specs.Fields.{Numbers, IsBlock}
 use Rattle.blockfile.specs.WellFormed.{Piece, pagesOf, Bears, block, freePage, freePieces, firstBlock}
-use Rattle.pages.specs.Claims.{claimable, claimed, Claimed}
-use Rattle.pages.proofs.Marks.{begins-take, take-begins}
+use Rattle.heads.specs.Claims.{Lent, claimable, claimed, Claimed}
+use Rattle.heads.proofs.Marks.{begins-take, take-begins}
 use Rattle.walks.specs.declared.Walked.{Walked}
 use Rattle.walks.specs.declared.Walked.the-variants.{Refused, Done}
-use Rattle.walks.specs.Found.{Open, claims, zeros, Found, FindsAt}
-use Rattle.walks.proofs.Founds.{SameAt, same-start, same-turn, finds-none, finds-done, done-injective, refused-never, found-none, found-join, found-first, found-second, claimable-open, zeros-claims, length-claimed, length-claims}
-use Rattle.walks.proofs.Pieces.{Single, found-claimable, found-rest, found-cons, claim-done, claim-not}
+use Rattle.walks.specs.Found.{Open, claims, unclaimed, Found, FindsAt}
+use Rattle.walks.proofs.Founds.{SameAt, same-start, same-turn, finds-none, finds-done, done-injective, refused-never, found-none, found-join, found-first, found-second, found-lent, claimable-open, unclaimed-claims, length-claimed, length-claims}
+use Rattle.walks.proofs.Pieces.{Single, found-claimable, found-rest, found-cons, claim-done, claim-not, claim-lent}
 use Rattle.verify.specs.Free.{numbersAt, ListedFound, BlockFound, FreeFound}
 
 pub length-numbers : (b : List ℕ) (o n : ℕ) → length (numbersAt b o n) ≡ n
@@ -64,16 +64,17 @@ module _ (img scr : List ℕ) (p o k n : ℕ) (is : n ≡ be32 (pg img p) o) whe
 pub record Listing (img scr₀ scr : List ℕ) (p count i : ℕ) : Type 0 where
   pub most : i ≤ count
   pub long : length scr ≡ length scr₀
+  pub lent : Lent img scr
   pub same : SameAt {A = Unit {0}} (λ u. ListedFound img scr p (16 + 4 * i) (count - i)) (λ u. ListedFound img scr₀ p 16 count)
 
 abbrev pub ListedIs : (img scr₀ : List ℕ) (p count : ℕ) (r : Bool) (out : List ℕ) → Type 0
 ListedIs img scr₀ p count r out = FindsAt {A = Unit {0}} (λ u. true) (λ u. ListedFound img scr₀ p 16 count) r out
 
-pub listing-start : (img scr : List ℕ) (p count : ℕ) → Listing img scr scr p count 0
-listing-start img scr p count =
+pub listing-start : (img scr : List ℕ) (p count : ℕ) → Lent img scr → Listing img scr scr p count 0
+listing-start img scr p count lent =
     let a : 16 + 4 * 0 ≡ 16 = omega arith in
     let b : count - 0 ≡ count = omega arith in
-    record { most = omega arith; long = refl; same = rw (a, b) (same-start (λ u. ListedFound img scr p 16 count)) }
+    record { most = omega arith; long = refl; lent = lent; same = rw (a, b) (same-start (λ u. ListedFound img scr p 16 count)) }
 
 module _ (img scr₀ scr : List ℕ) (p count i : ℕ) (v : Listing img scr₀ scr p count i) where
   pub listing-end : (i < count → ⊥) → ListedIs img scr₀ p count true scr
@@ -98,6 +99,7 @@ module _ (img scr₀ scr : List ℕ) (p count i : ℕ) (v : Listing img scr₀ s
         record {
           most = omega arith;
           long = ap length (d .1) ∙ length-claimed scr n ∙ v .long;
+          lent = claim-lent c e (v .lent);
           same = rw (o, d .1) (same-turn (after-one img scr p (16 + 4 * i) (count - (i + 1)) n is (d .0)) here);
         }
 
@@ -137,12 +139,6 @@ module _ (img scr : List ℕ) (p : ℕ) where
         (λ m t f. true≢false
         (sym (found-claimable img scr (block blockAt (be32 (pg img p) 8)) p 5 (block-single img p _ _) (map freePage (blockAt .listed)) t (found-is m t f .2))
         ∙ claim-not img scr p 5 r s c e))
-
-    -- what the code needs to read on
-    pub block-open : r ≡ true → Open scr p × (length s ≡ length scr)
-    block-open e =
-        let d : (claimable img scr p 5 ≡ true) × (s ≡ claimed scr p) = claim-done img scr p 5 r s c e in
-        (claimable-open img scr p 5 (d .0) .0, ap length (d .1) ∙ length-claimed scr p)
 
     module _ (e : r ≡ true) (n : ℕ) (is : n ≡ be32 (pg img p) 12) where
       pub block-over : 252 < n → FindsAt Done (BlockFound img scr p) Refused s
@@ -185,12 +181,12 @@ owned-free [] = refl
 owned-free (n ∷ ns) = ap (λ (ms : List ℕ). n ∷ ms) (owned-free ns)
 
 -- a block that was claimed is a page of the image, and uses up pages that were not claimed
-pub block-turn : (img scr : List ℕ) (p m : ℕ) (out : List ℕ) → BlockFound img scr p m out → Open scr p × (zeros scr ≡ m + zeros out) × (1 ≤ m) × (length out ≡ length scr)
+pub block-turn : (img scr : List ℕ) (p m : ℕ) (out : List ℕ) → BlockFound img scr p m out → Open scr p × (unclaimed scr ≡ m + unclaimed out) × (1 ≤ m) × (length out ≡ length scr)
 block-turn img scr p m out f =
     let ns : List ℕ = gather pagesOf (block (record { page = p; listed = f .listed }) (be32 (pg img p) 8) ∷ map freePage (f .listed)) in
     let n : length ns ≡ 1 + length (f .listed) = ap (λ (ms : List ℕ). suc (length ms)) (owned-free (f .listed)) ∙ add-comm-one (length (f .listed)) in (
       f .found .fresh .0,
-      omega (arith, zeros-claims scr ns (f .found .fresh), ap zeros (f .found .left), n, f .total),
+      omega (arith, unclaimed-claims scr ns (f .found .fresh), ap unclaimed (f .found .left), n, f .total),
       omega (arith, f .total),
       ap length (f .found .left) ∙ length-claims scr ns,
     )
@@ -265,11 +261,12 @@ module _ (img scr : List ℕ) (p n : ℕ) where
 -- the loop over the blocks: n pages are found, and the next block is on page p
 pub record Freeing (img scr₀ : List ℕ) (start : ℕ) (scr : List ℕ) (p n : ℕ) : Type 0 where
   pub long : length scr ≡ length scr₀
-  pub used : n + zeros scr ≡ zeros scr₀
+  pub lent : Lent img scr
+  pub used : n + unclaimed scr ≡ unclaimed scr₀
   pub same : SameAt (FreeFound img scr p n) (FreeFound img scr₀ start 0)
 
-pub freeing-start : (img scr : List ℕ) (start : ℕ) → Freeing img scr start scr start 0
-freeing-start img scr start = record { long = refl; used = omega arith; same = same-start (FreeFound img scr start 0) }
+pub freeing-start : (img scr : List ℕ) (start : ℕ) → Lent img scr → Freeing img scr start scr start 0
+freeing-start img scr start lent = record { long = refl; lent = lent; used = omega arith; same = same-start (FreeFound img scr start 0) }
 
 module _ (img scr₀ : List ℕ) (start : ℕ) (scr : List ℕ) (p n : ℕ) (v : Freeing img scr₀ start scr p n) where
   pub freeing-end : p ≡ 0 → FindsAt Done (FreeFound img scr₀ start 0) (Done n) scr
@@ -284,6 +281,7 @@ module _ (img scr₀ : List ℕ) (start : ℕ) (scr : List ℕ) (p n : ℕ) (v :
         let t = block-turn img scr p k s (b .sound k e) in
         record {
           long = t .3 ∙ v .long;
+          lent = found-lent (v .lent) (b .sound k e .found);
           used = omega (arith, t .1, v .used);
           same = rw is (same-turn (chain-more img scr p n z a s b k e) (v .same));
         }

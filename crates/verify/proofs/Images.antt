@@ -5,7 +5,7 @@ use native.Mathlib.Omega.{arith}
 use mathlib.Core.Path.{_≡_, refl, ap, sym, _∙_, subst}
 use mathlib.Core.Bool.{Bool, true, false, cond, true≢false}
 use mathlib.Core.List.{List, [], _∷_, _++_, map}
-use lib.ListN.{length, replicate, length-map, length-replicate}
+use lib.ListN.{length, length-map}
 use lib.Dec.{T, leb, le→leb}
 use borrow.Author.Tests.{le-leb}
 use Rattle.blockfile.specs.declared.Counts.{Counts}
@@ -15,15 +15,14 @@ use Rattle.blockfile.specs.Order.{Within, within, allWithin, KeyRule, nameRule,
 use Rattle.blockfile.specs.WellFormed.{Piece, superblock, pagesOf, Bears, TableOk, tablePieces, freePieces, firstBlock, pieces, WellFormed}
 use Rattle.blockfile.proofs.Bools.{holds, and-both, both-and, within-is}
 use Rattle.blockfile.proofs.Every.{every-so}
-use Rattle.pages.specs.Claims.{Lent, full}
+use Rattle.heads.specs.Claims.{pagesIn, Lent, Headed, full}
 use Rattle.walks.specs.declared.Walked.{Walked}
 use Rattle.walks.specs.declared.Walked.the-variants.{Refused, Done}
 use Rattle.walks.specs.Found.{claims, Fresh, Found, FindsAt}
-use Rattle.walks.proofs.Founds.{SameAt, same-turn, done-injective, refused-never, found-join, found-first, found-second, fresh-left, fresh-right, length-claims}
-use Rattle.walks.proofs.Once.{claimed-once, once-claimed}
+use Rattle.walks.proofs.Founds.{SameAt, same-turn, done-injective, refused-never, found-join, found-first, found-second, found-lent, fresh-left, fresh-right, length-claims}
+use Rattle.walks.proofs.Once.{AllOpen, claimed-once, once-claimed}
 use Rattle.search.specs.Spans.{Borne}
-use Rattle.spans.specs.declared.Rule.the-variants.{Keys}
-use Rattle.spans.specs.Spans.{ruleOf, sized}
+use Rattle.spans.specs.Spans.{Keys, ruleOf, sized}
 use Rattle.spans.proofs.PageClaims.{inside-fresh}
 use Rattle.verify.specs.declared.superblock.Superblock.{Superblock}
 use Rattle.verify.specs.declared.superblock.Started.{Started}
@@ -45,7 +44,7 @@ counted p t k f = record { pages = p; tables = t; keys = k; free = f }
 -- from the start: all of the layout L
 pub record Whole (img scr : List ℕ) (c : Counts) (out : List ℕ) : Type 0 where
   pub layout : Layout
-  pub pages : layout .pages ≡ length scr
+  pub pages : layout .pages ≡ pagesIn scr
   pub spanSize : Within 2 128 (layout .spanSize)
   pub metaPage : layout .meta .root ≡ 2
   pub metaOk : TableOk nameRule (layout .meta)
@@ -115,14 +114,14 @@ module _ (img scr : List ℕ) (r : Started) (s : List ℕ) (f : FindsAt Begun (S
       let z : _≡_ {A = ℕ} 0 1 = cc in
       omega arith
 
-  pub past-super : (a : Superblock) → r ≡ Begun a → SameAt (Tabled img (length scr) (a .free) s) (Whole img scr)
+  pub past-super : (a : Superblock) → r ≡ Begun a → SameAt (Tabled img (pagesIn scr) (a .free) s) (Whole img scr)
   past-super a e = record { to = to; back = back }
     where
-      to : (c : Counts) (out : List ℕ) → Tabled img (length scr) (a .free) s c out → Whole img scr c out
+      to : (c : Counts) (out : List ℕ) → Tabled img (pagesIn scr) (a .free) s c out → Whole img scr c out
       to c out t =
           let x : SuperFound img scr a s = f .sound a e in
           record {
-            layout = record { pages = length scr; spanSize = a .size; meta = t .meta; tables = t .tables; free = t .free };
+            layout = record { pages = pagesIn scr; spanSize = a .size; meta = t .meta; tables = t .tables; free = t .free };
             pages = refl;
             spanSize = x .range;
             metaPage = t .metaPage;
@@ -130,12 +129,12 @@ module _ (img scr : List ℕ) (r : Started) (s : List ℕ) (f : FindsAt Begun (S
             metaEntries = t .metaEntries;
             tablesOk = t .tablesOk;
             blocksOk = t .blocksOk;
-            found = found-join img scr (superblock (length scr) (firstBlock (t .free)) (a .size) ∷ []) (tablePieces (t .meta) ++ (tablesPieces (t .tables) ++ freePieces (t .free))) s out
-                (subst (λ (n : ℕ). Found img scr (superblock (length scr) n (a .size) ∷ []) s) (t .start) (x .found)) (t .found);
+            found = found-join img scr (superblock (pagesIn scr) (firstBlock (t .free)) (a .size) ∷ []) (tablePieces (t .meta) ++ (tablesPieces (t .tables) ++ freePieces (t .free))) s out
+                (subst (λ (n : ℕ). Found img scr (superblock (pagesIn scr) n (a .size) ∷ []) s) (t .start) (x .found)) (t .found);
             counts = t .counts;
           }
 
-      back : (c : Counts) (out : List ℕ) → Whole img scr c out → Tabled img (length scr) (a .free) s c out
+      back : (c : Counts) (out : List ℕ) → Whole img scr c out → Tabled img (pagesIn scr) (a .free) s c out
       back c out w =
           let d = f .complete _ _ (super-of c out w) in
           let q : Begun a ≡ Begun (record { free = firstBlock (w .layout .free); size = w .layout .spanSize }) = sym e ∙ d .0 in
@@ -342,16 +341,16 @@ module _ (img : List ℕ) (p first : ℕ) (scr : List ℕ) (m : ℕ) (mid : List
         counts = ap (counted p m k) (let q : n ≡ freeCount (g .blocks) = omega (arith, g .total) in q);
       }
 
--- ---- The verdict. The scratch is zero at the start
+-- ---- The verdict. No page is claimed at the start
 
-module _ (img : List ℕ) (p : ℕ) (size : length img ≡ 1024 * p) (range : Within 4 4096 p) where
-  abbrev blank : List ℕ
-  blank = replicate p 0
+module _ (img : List ℕ) (p : ℕ) (size : length img ≡ 1024 * p) (range : Within 4 4096 p) (scr : List ℕ) (none : AllOpen p scr) where
+  count-is : pagesIn scr ≡ p
+  count-is = omega (arith, none .long)
 
   -- with every page claimed, what is found from the start is the layout of a well-formed image
-  well : (c : Counts) (out : List ℕ) (w : Whole img blank c out) → full out ≡ true → WellFormed img (w .layout)
+  well : (c : Counts) (out : List ℕ) (w : Whole img scr c out) → full out ≡ true → WellFormed img (w .layout)
   well c out w e =
-      let q : w .layout .pages ≡ p = w .pages ∙ length-replicate p 0 in
+      let q : w .layout .pages ≡ p = w .pages ∙ count-is in
       record {
         pages = subst (Within 4 4096) (sym q) range;
         size = size ∙ ap (λ (n : ℕ). 1024 * n) (sym q);
@@ -362,21 +361,21 @@ module _ (img : List ℕ) (p : ℕ) (size : length img ≡ 1024 * p) (range : Wi
         tablesOk = w .tablesOk;
         blocksOk = w .blocksOk;
         bears = w .found .bears;
-        once = λ n. claimed-once p (gather pagesOf (pieces (w .layout))) (w .found .fresh) (subst (λ (s : List ℕ). full s ≡ true) (w .found .left) e) n ∙ ap (λ (k : ℕ). once-at k n) (sym q);
+        once = λ n. claimed-once p scr none (gather pagesOf (pieces (w .layout))) (w .found .fresh) (subst (λ (s : List ℕ). full s ≡ true) (w .found .left) e) n ∙ ap (λ (k : ℕ). once-at k n) (sym q);
       }
     where
       once-at : ℕ → ℕ → ℕ
       once-at k n = cond (within 1 k n) 1 0
 
   -- a well-formed image's layout is found from the start, and every page is claimed
-  whole : (L : Layout) → WellFormed img L → (out : List ℕ) × Whole img blank (countsOf L) out × (full out ≡ true)
+  whole : (L : Layout) → WellFormed img L → (out : List ℕ) × Whole img scr (countsOf L) out × (full out ≡ true)
   whole L w =
       let q : L .pages ≡ p = same (length img) (L .pages) p (w .size) size in
-      let o = once-claimed p (gather pagesOf (pieces L)) (λ n. w .once n ∙ ap (λ (k : ℕ). once-at k n) q) in (
-        claims blank (gather pagesOf (pieces L)),
+      let o = once-claimed p scr none (gather pagesOf (pieces L)) (λ n. w .once n ∙ ap (λ (k : ℕ). once-at k n) q) in (
+        claims scr (gather pagesOf (pieces L)),
         record {
           layout = L;
-          pages = q ∙ sym (length-replicate p 0);
+          pages = q ∙ sym count-is;
           spanSize = w .spanSize;
           metaPage = w .metaPage;
           metaOk = w .metaOk;
@@ -395,14 +394,14 @@ module _ (img : List ℕ) (p : ℕ) (size : length img ≡ 1024 * p) (range : Wi
       once-at : ℕ → ℕ → ℕ
       once-at k n = cond (within 1 k n) 1 0
 
-  pub verdict-bad : ((c : Counts) (out : List ℕ) → Whole img blank c out → full out ≡ true → ⊥) → Judged img Bad
+  pub verdict-bad : ((c : Counts) (out : List ℕ) → Whole img scr c out → full out ≡ true → ⊥) → Judged img Bad
   verdict-bad n =
       record {
         sound = λ c e. absurd (let z : _≡_ {A = ℕ} 0 1 = cc in omega arith);
         complete = λ L w. let x = whole L w in absurd (n (countsOf L) (x .0) (x .1) (x .2));
       }
 
-  pub verdict-good : (c : Counts) (out : List ℕ) → Whole img blank c out → full out ≡ true → ((d : Counts) (t : List ℕ) → Whole img blank d t → d ≡ c) → Judged img (Good c)
+  pub verdict-good : (c : Counts) (out : List ℕ) → Whole img scr c out → full out ≡ true → ((d : Counts) (t : List ℕ) → Whole img scr d t → d ≡ c) → Judged img (Good c)
   verdict-good c out w e only =
       record {
         sound = λ d q. let i : c ≡ d = cc in (w .layout, well c out w e, sym i ∙ w .counts);
@@ -411,11 +410,11 @@ module _ (img : List ℕ) (p : ℕ) (size : length img ≡ 1024 * p) (range : Wi
 
 -- ---- The metaindex that was found, to be read
 
-borne-found : (img scr : List ℕ) (ps : List Piece) → length img ≡ 1024 * length scr → Every (Bears (pg img)) ps → Fresh scr (gather pagesOf ps) → Every (Borne img) ps
+borne-found : (img scr : List ℕ) (ps : List Piece) → length img ≡ 64 * length scr → Every (Bears (pg img)) ps → Fresh scr (gather pagesOf ps) → Every (Borne img) ps
 borne-found img scr [] size b f = tt
 borne-found img scr (x ∷ ps) size b f = (
   (b .0, inside-fresh img scr (pagesOf x) size (fresh-left scr (pagesOf x) (gather pagesOf ps) f)),
-  borne-found img (claims scr (pagesOf x)) ps (size ∙ ap (λ (n : ℕ). 1024 * n) (sym (length-claims scr (pagesOf x)))) (b .1) (fresh-right scr (pagesOf x) (gather pagesOf ps) f),
+  borne-found img (claims scr (pagesOf x)) ps (size ∙ ap (λ (n : ℕ). 64 * n) (sym (length-claims scr (pagesOf x)))) (b .1) (fresh-right scr (pagesOf x) (gather pagesOf ps) f),
 )
 
 meta-on : (img scr : List ℕ) (m : ℕ) (mid : List ℕ) → Lent img scr → (x : MetaFound img scr m mid) → MetaOn img (x .table)
@@ -429,55 +428,73 @@ meta-on img scr m mid lent x =
 
 -- ---- The verdict at each stage
 
-module _ (img scr : List ℕ) (lent : Lent img scr) (enough : 4 ≤ length scr) (clear : scr ≡ replicate (length scr) 0) where
+module _ (img scr : List ℕ) (headed : Headed img scr) (enough : 4096 ≤ length img) where
+  size : length img ≡ 1024 * pagesIn scr
+  size = let l = headed .lent in omega (arith, l .size, l .whole)
+
+  range : Within 4 4096 (pagesIn scr)
+  range = let l = headed .lent in (omega (arith, l .size, enough), omega (arith, l .most))
+
+  all-open : AllOpen (pagesIn scr) scr
+  all-open = record { long = omega (arith, headed .lent .whole); free = headed .unclaimed }
+
   bad : ((c : Counts) (out : List ℕ) → Whole img scr c out → full out ≡ true → ⊥) → Judged img Bad
-  bad n = verdict-bad img (length scr) (lent .size) (enough, lent .most) (λ c out w e. n c out (subst (λ (s : List ℕ). Whole img s c out) (sym clear) w) e)
+  bad = verdict-bad img (pagesIn scr) size range scr all-open
 
   module _ (r : Started) (s : List ℕ) (f : FindsAt Begun (SuperFound img scr) r s) where
     pub bad-super : r ≡ Unstarted → Judged img Bad
     bad-super q = bad (λ c out w e. no-super img scr r s f q c out w)
 
-    module _ (a : Superblock) (e : r ≡ Begun a) (lent₁ : Lent img s) (r₁ : Walked) (s₁ : List ℕ) (f₁ : FindsAt Done (MetaFound img s) r₁ s₁) where
-      started : SameAt (Tabled img (length scr) (a .free) s) (Whole img scr)
+    pub super-lent : (a : Superblock) → r ≡ Begun a → Lent img s
+    super-lent a e = found-lent (headed .lent) (f .sound a e .found)
+
+    module _ (a : Superblock) (e : r ≡ Begun a) (r₁ : Walked) (s₁ : List ℕ) (f₁ : FindsAt Done (MetaFound img s) r₁ s₁) where
+      started : SameAt (Tabled img (pagesIn scr) (a .free) s) (Whole img scr)
       started = past-super img scr r s f a e
 
       pub bad-meta : r₁ ≡ Refused → Judged img Bad
-      bad-meta q = bad (λ c out w e. no-meta img (length scr) (a .free) s r₁ s₁ f₁ q c out (started .back c out w))
+      bad-meta q = bad (λ c out w e. no-meta img (pagesIn scr) (a .free) s r₁ s₁ f₁ q c out (started .back c out w))
 
       module _ (m : ℕ) (e₁ : r₁ ≡ Done m) where
         pub meta-there : (meta : Table) × MetaOn img meta
-        meta-there = let x : MetaFound img s m s₁ = f₁ .sound m e₁ in (x .table, meta-on img s m s₁ lent₁ x)
+        meta-there = let x : MetaFound img s m s₁ = f₁ .sound m e₁ in (x .table, meta-on img s m s₁ (super-lent a e) x)
+
+        pub meta-lent : Lent img s₁
+        meta-lent = found-lent (super-lent a e) (f₁ .sound m e₁ .found)
 
         module _ (r₂ : Walked) (s₂ : List ℕ) (f₂ : (meta : Table) → MetaOn img meta → FindsAt Done (TablesFound img s₁ (entriesOf meta) 0) r₂ s₂) where
           walked : (x : MetaFound img s m s₁) → FindsAt Done (TablesFound img s₁ (entriesOf (x .table)) 0) r₂ s₂
-          walked x = f₂ (x .table) (meta-on img s m s₁ lent₁ x)
+          walked x = f₂ (x .table) (meta-on img s m s₁ (super-lent a e) x)
 
-          known : SameAt (Named img (length scr) (a .free) s m s₁) (Whole img scr)
-          known = same-turn (past-meta img (length scr) (a .free) s r₁ s₁ f₁ m e₁) started
+          known : SameAt (Named img (pagesIn scr) (a .free) s m s₁) (Whole img scr)
+          known = same-turn (past-meta img (pagesIn scr) (a .free) s r₁ s₁ f₁ m e₁) started
 
           pub bad-tables : r₂ ≡ Refused → Judged img Bad
-          bad-tables q = bad (λ c out w e. no-tables img (length scr) (a .free) s m s₁ r₂ s₂ walked q c out (known .back c out w))
+          bad-tables q = bad (λ c out w e. no-tables img (pagesIn scr) (a .free) s m s₁ r₂ s₂ walked q c out (known .back c out w))
+
+          pub tables-lent : (k : ℕ) → r₂ ≡ Done k → Lent img s₂
+          tables-lent k e₂ = found-lent meta-lent (walked (f₁ .sound m e₁) .sound k e₂ .found)
 
           module _ (k : ℕ) (e₂ : r₂ ≡ Done k) (r₃ : Walked) (s₃ : List ℕ) (f₃ : FindsAt Done (FreeFound img s₂ (a .free) 0) r₃ s₃) where
-            tabled : SameAt (Listed img (length scr) (a .free) s m s₁ k s₂) (Whole img scr)
-            tabled = same-turn (past-tables img (length scr) (a .free) s m s₁ r₂ s₂ walked k e₂) known
+            tabled : SameAt (Listed img (pagesIn scr) (a .free) s m s₁ k s₂) (Whole img scr)
+            tabled = same-turn (past-tables img (pagesIn scr) (a .free) s m s₁ r₂ s₂ walked k e₂) known
 
             pub bad-free : r₃ ≡ Refused → Judged img Bad
-            bad-free q = bad (λ c out w e. no-free img (length scr) (a .free) s m s₁ k s₂ r₃ s₃ f₃ q c out (tabled .back c out w))
+            bad-free q = bad (λ c out w e. no-free img (pagesIn scr) (a .free) s m s₁ k s₂ r₃ s₃ f₃ q c out (tabled .back c out w))
 
             module _ (n : ℕ) (e₃ : r₃ ≡ Done n) where
-              only : (c : Counts) (out : List ℕ) → Whole img scr c out → (c ≡ counted (length scr) m k n) × (out ≡ s₃)
-              only c out w = free-only img (length scr) (a .free) s m s₁ k s₂ r₃ s₃ f₃ n e₃ c out (tabled .back c out w)
+              only : (c : Counts) (out : List ℕ) → Whole img scr c out → (c ≡ counted (pagesIn scr) m k n) × (out ≡ s₃)
+              only c out w = free-only img (pagesIn scr) (a .free) s m s₁ k s₂ r₃ s₃ f₃ n e₃ c out (tabled .back c out w)
 
               pub bad-unowned : full s₃ ≡ false → Judged img Bad
               bad-unowned q = bad (λ c out w e. true≢false (sym e ∙ ap full (only c out w .1) ∙ q))
 
-              pub good : (p : ℕ) → p ≡ length scr → full s₃ ≡ true → Judged img (Good (counted p m k n))
+              pub good : (p : ℕ) → p ≡ pagesIn scr → full s₃ ≡ true → Judged img (Good (counted p m k n))
               good p i q =
                   let x : MetaFound img s m s₁ = f₁ .sound m e₁ in
-                  let l : Listed img (length scr) (a .free) s m s₁ k s₂ (counted (length scr) m k n) s₃
-                  = free-there img (length scr) (a .free) s m s₁ k s₂ r₃ s₃ f₃ n e₃ x (walked x .sound k e₂) in
+                  let l : Listed img (pagesIn scr) (a .free) s m s₁ k s₂ (counted (pagesIn scr) m k n) s₃
+                  = free-there img (pagesIn scr) (a .free) s m s₁ k s₂ r₃ s₃ f₃ n e₃ x (walked x .sound k e₂) in
                   subst (λ (x : ℕ). Judged img (Good (counted x m k n))) (sym i)
-                  (verdict-good img (length scr) (lent .size) (enough, lent .most) (counted (length scr) m k n) s₃
-                  (subst (λ (t : List ℕ). Whole img t (counted (length scr) m k n) s₃) clear (tabled .to (counted (length scr) m k n) s₃ l)) q
-                  (λ d t w. only d t (subst (λ (u : List ℕ). Whole img u d t) (sym clear) w) .0))
+                  (verdict-good img (pagesIn scr) size range scr all-open (counted (pagesIn scr) m k n) s₃
+                  (tabled .to (counted (pagesIn scr) m k n) s₃ l) q
+                  (λ d t w. only d t w .0))

@@ -19,11 +19,11 @@ use Rattle.laws.proofs.Numbers.{be32-agree, be32-below, be32-word32}
 use Rattle.laws.proofs.Lists.{agree-left}
 use Rattle.laws.proofs.Places.{gather-append}
 use Rattle.laws.proofs.Fitting.{many-entries}
-use Rattle.pages.specs.Claims.{Lent}
+use Rattle.heads.specs.Claims.{Lent}
 use Rattle.walks.specs.declared.Walked.{Walked}
 use Rattle.walks.specs.declared.Walked.the-variants.{Refused, Done}
-use Rattle.walks.specs.Found.{Open, claims, zeros, Found, FindsAt}
-use Rattle.walks.proofs.Founds.{SameAt, same-start, same-turn, finds-none, finds-done, done-injective, refused-never, found-none, found-join, found-first, found-second, zeros-claims, length-claims}
+use Rattle.walks.specs.Found.{Open, claims, unclaimed, Found, FindsAt}
+use Rattle.walks.proofs.Founds.{SameAt, same-start, same-turn, finds-none, finds-done, done-injective, refused-never, found-none, found-join, found-first, found-second, found-lent, unclaimed-claims, length-claims}
 use Rattle.entries.specs.declared.place.Place.{Place}
 use Rattle.entries.specs.declared.place.Sizes.{Sizes}
 use Rattle.entries.specs.Places.{IsPage, Enough, Moved, gap, Measured, Numbered}
@@ -31,8 +31,7 @@ use Rattle.entries.proofs.Octets.{Byte, bytes-at, bytes-take, bytes-rest}
 use Rattle.search.specs.Spans.{Borne, BytesAt, Along, EntryAt}
 use Rattle.entries.specs.Keys.{Key}
 use Rattle.search.proofs.Entries.{bytes-key, bytes-enough, bytes-length, along-enough, along-entry, entry-key, borne-along}
-use Rattle.spans.specs.declared.Rule.the-variants.{Names, Keys}
-use Rattle.spans.specs.Spans.{ruleOf, sized, entriesIn}
+use Rattle.spans.specs.Spans.{Names, Keys, ruleOf, sized, entriesIn}
 use Rattle.spans.specs.Entries.{fits, Allowed}
 use Rattle.towers.proofs.Heads.{span-few}
 use Rattle.verify.specs.Tables.{TableFound, listing, keysOf, TablesFound, NamesOn, MetaOn}
@@ -97,16 +96,16 @@ named-few (n ∷ ns) h =
     = ap length (owned-append (tablePieces (n .value)) (named ns)) ∙ length-append (ownedBy (tablePieces (n .value))) (ownedBy (named ns)) in
     omega (arith, table-few (n .value) (h .0), named-few ns (h .1))
 
-pub tables-few : (img scr : List ℕ) (es : List Entry) (n m : ℕ) (out : List ℕ) → TablesFound img scr es n m out → m + 128 * zeros out ≤ n + 128 * zeros scr
+pub tables-few : (img scr : List ℕ) (es : List Entry) (n m : ℕ) (out : List ℕ) → TablesFound img scr es n m out → m + 128 * unclaimed out ≤ n + 128 * unclaimed scr
 tables-few img scr es n m out f =
-    let z : zeros scr ≡ length (ownedBy (named (f .tables))) + zeros (claims scr (ownedBy (named (f .tables)))) = zeros-claims scr (ownedBy (named (f .tables))) (f .found .fresh) in
-    let o : zeros out ≡ zeros (claims scr (ownedBy (named (f .tables)))) = ap zeros (f .found .left) in
+    let z : unclaimed scr ≡ length (ownedBy (named (f .tables))) + unclaimed (claims scr (ownedBy (named (f .tables)))) = unclaimed-claims scr (ownedBy (named (f .tables))) (f .found .fresh) in
+    let o : unclaimed out ≡ unclaimed (claims scr (ownedBy (named (f .tables)))) = ap unclaimed (f .found .left) in
     omega (arith, named-few (f .tables) (f .ok), f .keys)
 
-pub table-fewer : {r : KeyRule} {sized : ℕ → Bool} (img scr : List ℕ) (root k : ℕ) (out : List ℕ) → TableFound r sized img scr root k out → (k + 128 * zeros out ≤ 128 * zeros scr) × (length out ≡ length scr)
+pub table-fewer : {r : KeyRule} {sized : ℕ → Bool} (img scr : List ℕ) (root k : ℕ) (out : List ℕ) → TableFound r sized img scr root k out → (k + 128 * unclaimed out ≤ 128 * unclaimed scr) × (length out ≡ length scr)
 table-fewer img scr root k out f =
-    let z : zeros scr ≡ length (ownedBy (tablePieces (f .table))) + zeros (claims scr (ownedBy (tablePieces (f .table)))) = zeros-claims scr (ownedBy (tablePieces (f .table))) (f .found .fresh) in
-    let o : zeros out ≡ zeros (claims scr (ownedBy (tablePieces (f .table)))) = ap zeros (f .found .left) in
+    let z : unclaimed scr ≡ length (ownedBy (tablePieces (f .table))) + unclaimed (claims scr (ownedBy (tablePieces (f .table)))) = unclaimed-claims scr (ownedBy (tablePieces (f .table))) (f .found .fresh) in
+    let o : unclaimed out ≡ unclaimed (claims scr (ownedBy (tablePieces (f .table)))) = ap unclaimed (f .found .left) in
     (omega (arith, table-few (f .table) (f .ok), f .keys), ap length (f .found .left) ∙ length-claims scr (ownedBy (tablePieces (f .table))))
 
 -- ---- One table after another
@@ -215,18 +214,20 @@ pub record Naming (img scr₀ : List ℕ) (es : List Entry) (before : ℕ) (scr 
   pub count : left ≡ length rest
   pub some : Every (λ e. 1 ≤ length (e .key)) rest
   pub long : length scr ≡ length scr₀
-  pub few : keys + 128 * zeros scr ≤ before + 128 * zeros scr₀
+  pub lent : Lent img scr
+  pub few : keys + 128 * unclaimed scr ≤ before + 128 * unclaimed scr₀
   pub same : SameAt (TablesFound img scr rest keys) (TablesFound img scr₀ es before)
 
-pub naming-start : (img scr : List ℕ) (page before : ℕ) (es : List Entry) → NamesOn img page es → (n : ℕ) → n ≡ be16 (pg img page) 18
+pub naming-start : (img scr : List ℕ) (page before : ℕ) → Lent img scr → (es : List Entry) → NamesOn img page es → (n : ℕ) → n ≡ be16 (pg img page) 18
     → Naming img scr es before scr (record { page = page; offset = 20 }) n before
-naming-start img scr page before es h n e =
+naming-start img scr page before lent es h n e =
     record {
       rest = es;
       along = h .along;
       count = e ∙ h .count;
       some = h .some;
       long = refl;
+      lent = lent;
       few = omega arith;
       same = same-start (TablesFound img scr es before);
     }
@@ -304,7 +305,7 @@ module _ {img scr₀ : List ℕ} {es : List Entry} {before : ℕ} {scr : List �
                 let v : BytesAt img p (g .value) (turn .first .value) = value in
                 record { bytes = v .bytes; rest = v .rest; long = omega (arith, v .long, value-long, four) }
 
-            module _ (lent : Lent img scr) (bytes : (i : ℕ) → getD img i 0 < 256) (root : ℕ) (is : Numbered img p root) (r : Walked) (s : List ℕ)
+            module _ (bytes : (i : ℕ) → getD img i 0 < 256) (root : ℕ) (is : Numbered img p root) (r : Walked) (s : List ℕ)
                 (f : FindsAt Done (TableFound (ruleOf Keys) (sized Keys) img scr root) r s) where
               word : turn .first .value ≡ word32 root
               word = value-word img bytes p (g .value) (turn .first .value) value four root is
@@ -315,19 +316,20 @@ module _ {img scr₀ : List ℕ} {es : List Entry} {before : ℕ} {scr : List �
               pub naming-no : r ≡ Refused → FindsAt Done (TablesFound img scr₀ es before) Refused s
               naming-no e =
                   finds-none Done Refused s (turn .same) refused-never
-                  (name-no img scr lent (turn .first) (turn .more) keys root (parts .1) word small r s f e)
+                  (name-no img scr (v .lent) (turn .first) (turn .more) keys root (parts .1) word small r s f e)
 
               pub naming-next : (k : ℕ) → r ≡ Done k → (q : Place) → Moved img (g .after) (g .key + g .value) q → Naming img scr₀ es before s q (left - 1) (keys + k)
               naming-next k e q on =
-                  let b : (k + 128 * zeros s ≤ 128 * zeros scr) × (length s ≡ length scr) = table-fewer img scr root k s (f .sound k e) in
+                  let b : (k + 128 * unclaimed s ≤ 128 * unclaimed scr) × (length s ≡ length scr) = table-fewer img scr root k s (f .sound k e) in
                   record {
                     rest = turn .more;
                     along = entry .next q on;
                     count = omega (arith, turn .count);
                     some = turn .some;
                     long = b .1 ∙ v .long;
+                    lent = found-lent (v .lent) (f .sound k e .found);
                     few = omega (arith, b .0, v .few);
-                    same = same-turn (name-next img scr lent (turn .first) (turn .more) keys root (parts .1) word small r s f k e) (turn .same);
+                    same = same-turn (name-next img scr (v .lent) (turn .first) (turn .more) keys root (parts .1) word small r s f k e) (turn .same);
                   }
 
 -- ---- The entries of one span after those of another
@@ -434,15 +436,16 @@ pub record Tabling (img scr₀ : List ℕ) (meta : Table) (scr : List ℕ) (page
   pub starts : page ≡ firstOf (map (λ s. s .page) rest)
   pub count : left ≡ length rest
   pub long : length scr ≡ length scr₀
-  pub few : keys + 128 * zeros scr ≤ 128 * zeros scr₀
+  pub lent : Lent img scr
+  pub few : keys + 128 * unclaimed scr ≤ 128 * unclaimed scr₀
   pub same : SameAt (TablesFound img scr (entriesIn rest) keys) (TablesFound img scr₀ (entriesOf meta) 0)
 
 module _ (img scr : List ℕ) (meta : Table) (h : MetaOn img meta) where
   pub meta-inside : IsPage img 2
   meta-inside = subst (IsPage img) (h .page) (h .borne .0 .1 .0)
 
-  pub tabling-start : (page left : ℕ) → page ≡ be32 (pg img 2) 8 → left ≡ be32 (pg img 2) 20 → Tabling img scr meta scr page left 0
-  tabling-start page left p l =
+  pub tabling-start : Lent img scr → (page left : ℕ) → page ≡ be32 (pg img 2) 8 → left ≡ be32 (pg img 2) 20 → Tabling img scr meta scr page left 0
+  tabling-start lent page left p l =
       let k : IsSkipList (skipListOf meta) (pg img 2) = subst (λ (n : ℕ). IsSkipList (skipListOf meta) (pg img n)) (h .page) (h .borne .0 .0) in
       record {
         small = h .small;
@@ -454,6 +457,7 @@ module _ (img scr : List ℕ) (meta : Table) (h : MetaOn img meta) where
         starts = p ∙ k .first;
         count = l ∙ k .spans ∙ sym (length-map (columns meta) (λ c. c .span));
         long = refl;
+        lent = lent;
         few = omega arith;
         same = same-start (TablesFound img scr (entriesOf meta) 0);
       }
@@ -532,6 +536,7 @@ module _ {img scr₀ : List ℕ} {meta : Table} {scr : List ℕ} {page left keys
             starts = q ∙ ahead .next;
             count = omega (arith, ahead .count);
             long = l ∙ v .long;
+            lent = found-lent (v .lent) (here .sound k e .found);
             few = omega (arith, tables-few img scr (ahead .first .entries) keys k s (here .sound k e), v .few);
             same = same-turn (names-next img scr (ahead .first .entries) (entriesIn (ahead .more)) keys r s here k e) (ahead .same);
           }

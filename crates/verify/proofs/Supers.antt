@@ -1,20 +1,20 @@
 -- The tests of the superblock.
 use Prim.Native.Nat.{ℕ, _+_, _*_, _-_, _≤_, _<_}
 use native.Mathlib.Omega.{arith}
-use mathlib.Core.Path.{_≡_, refl, ap, sym, _∙_, subst}
+use mathlib.Core.Path.{_≡_, refl, sym, _∙_, subst}
 use mathlib.Core.Bool.{Bool, true, false, true≢false}
 use mathlib.Core.List.{List, []}
-use lib.ListN.{length, getD}
+use lib.ListN.{getD}
 use Rattle.blockfile.specs.Bytes.{pg, be16, be32, be64}
 use Rattle.blockfile.specs.Marks.{superMark}
 use Rattle.blockfile.specs.Order.{Within}
 use Rattle.blockfile.specs.Fields.{IsSuperblock}
 use Rattle.blockfile.specs.WellFormed.{superblock}
 use Rattle.laws.proofs.Pages.{pg-at}
-use Rattle.pages.specs.Claims.{claimable, claimed, Claimed}
-use Rattle.pages.proofs.Marks.{begins-take, take-begins}
-use Rattle.walks.specs.Found.{Open, Decides, FindsAt}
-use Rattle.walks.proofs.Founds.{decides-true, decides-false, same-start, finds-none, finds-done, found-none, claimable-open, length-claimed}
+use Rattle.heads.specs.Claims.{pagesIn, claimable, claimed, Claimed}
+use Rattle.heads.proofs.Marks.{begins-take, take-begins}
+use Rattle.walks.specs.Found.{Decides, FindsAt}
+use Rattle.walks.proofs.Founds.{decides-true, decides-false, same-start, finds-none, finds-done, found-none, claimable-open}
 use Rattle.walks.proofs.Pieces.{Single, found-claimable, found-rest, found-cons, claim-done, claim-not}
 use Rattle.verify.specs.declared.superblock.Superblock.{Superblock}
 use Rattle.verify.specs.declared.superblock.Started.the-variants.{Refused, Begun}
@@ -62,26 +62,20 @@ module _ (img scr : List ℕ) where
   none : (s : List ℕ) → ((a : Superblock) (t : List ℕ) → SuperFound img scr a t → ⊥) → FindsAt Begun (SuperFound img scr) Refused s
   none s n = finds-none Begun Refused s (same-start (SuperFound img scr)) refused-never n
 
-  fields : (a : Superblock) (t : List ℕ) → SuperFound img scr a t → IsSuperblock (length scr) (a .free) (a .size) (pg img 1)
+  fields : (a : Superblock) (t : List ℕ) → SuperFound img scr a t → IsSuperblock (pagesIn scr) (a .free) (a .size) (pg img 1)
   fields a t f = f .found .bears .0
 
   module _ (r : Bool) (s : List ℕ) (c : Claimed img scr 1 0 r s) where
     pub super-no : r ≡ false → FindsAt Begun (SuperFound img scr) Refused s
     super-no e =
         none s (λ a t f. true≢false
-        (sym (found-claimable img scr (superblock (length scr) (a .free) (a .size)) 1 0 (super-single img _ _ _) [] t (f .found)) ∙ claim-not img scr 1 0 r s c e))
+        (sym (found-claimable img scr (superblock (pagesIn scr) (a .free) (a .size)) 1 0 (super-single img _ _ _) [] t (f .found)) ∙ claim-not img scr 1 0 r s c e))
 
-    -- what the code needs to read on
-    pub super-open : r ≡ true → Open scr 1 × (length s ≡ length scr)
-    super-open e =
-        let d : (claimable img scr 1 0 ≡ true) × (s ≡ claimed scr 1) = claim-done img scr 1 0 r s c e in
-        (claimable-open img scr 1 0 (d .0) .0, ap length (d .1) ∙ length-claimed scr 1)
-
-    module _ (e : r ≡ true) (n : ℕ) (is : n ≡ length scr) (q : Bool) (d : Decides (Fixed n (pg img 1)) q) where
+    module _ (e : r ≡ true) (n : ℕ) (is : n ≡ pagesIn scr) (q : Bool) (d : Decides (Fixed n (pg img 1)) q) where
       pub super-unfixed : q ≡ false → FindsAt Begun (SuperFound img scr) Refused s
       super-unfixed h =
           none s (λ a t f.
-          let i : IsSuperblock (length scr) (a .free) (a .size) (pg img 1) = fields a t f in
+          let i : IsSuperblock (pagesIn scr) (a .free) (a .size) (pg img 1) = fields a t f in
           true≢false
           (sym (d .complete (subst (λ (m : ℕ). Fixed m (pg img 1)) (sym is) (record { major = i .major; minor = i .minor; fileLength = i .fileLength; pageSize = i .pageSize })))
           ∙ h))
@@ -97,8 +91,8 @@ module _ (img scr : List ℕ) where
       unfolding superMark
       super-done h m a fr sz w =
           let k : (claimable img scr 1 0 ≡ true) × (s ≡ claimed scr 1) = claim-done img scr 1 0 r s c e in
-          let x : Fixed (length scr) (pg img 1) = subst (λ (p : ℕ). Fixed p (pg img 1)) is (d .sound h) in
-          let b : IsSuperblock (length scr) (a .free) (a .size) (pg img 1) =
+          let x : Fixed (pagesIn scr) (pg img 1) = subst (λ (p : ℕ). Fixed p (pg img 1)) is (d .sound h) in
+          let b : IsSuperblock (pagesIn scr) (a .free) (a .size) (pg img 1) =
           record {
             mark = begins-take superMark (pg img 1) (claimable-open img scr 1 0 (k .0) .1);
             major = x .major;
@@ -112,10 +106,10 @@ module _ (img scr : List ℕ) where
           finds-done Begun (Begun a) s (same-start (SuperFound img scr)) begun-injective a refl
           (record {
             range = w;
-            found = rw (k .1) (found-cons img scr (superblock (length scr) (a .free) (a .size)) 1 0 (super-single img _ _ _) [] (claimed scr 1) (k .0) b (found-none img (claimed scr 1)));
+            found = rw (k .1) (found-cons img scr (superblock (pagesIn scr) (a .free) (a .size)) 1 0 (super-single img _ _ _) [] (claimed scr 1) (k .0) b (found-none img (claimed scr 1)));
           })
           (λ o t f.
-          let i : IsSuperblock (length scr) (o .free) (o .size) (pg img 1) = fields o t f in (
+          let i : IsSuperblock (pagesIn scr) (o .free) (o .size) (pg img 1) = fields o t f in (
             (λ j. record { free = (fr ∙ i .free) j; size = (sz ∙ i .spanSize) j }),
-            k .1 ∙ sym (found-rest img scr (superblock (length scr) (o .free) (o .size)) 1 0 (super-single img _ _ _) [] t (f .found) .left),
+            k .1 ∙ sym (found-rest img scr (superblock (pagesIn scr) (o .free) (o .size)) 1 0 (super-single img _ _ _) [] t (f .found) .left),
           ))

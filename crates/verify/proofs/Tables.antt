@@ -13,17 +13,16 @@ use Rattle.blockfile.specs.Layout.{Entry, Span, Column, columns, spansOf, tower
 use Rattle.blockfile.specs.Order.{Within}
 use Rattle.blockfile.specs.Fields.{SkipList, IsSkipList}
 use Rattle.blockfile.specs.WellFormed.{span, tower, skipList, pagesOf, linkSpans, linkTowers, spansIn, towersIn, skipListOf}
-use Rattle.pages.specs.Claims.{Lent, claimable, claimed, Claimed}
-use Rattle.pages.proofs.Marks.{begins-take, take-begins}
+use Rattle.heads.specs.Claims.{Lent, claimable, claimed, Claimed}
+use Rattle.heads.proofs.Marks.{begins-take, take-begins}
 use Rattle.walks.specs.declared.Walked.{Walked}
 use Rattle.walks.specs.declared.Walked.the-variants.{Refused, Done}
-use Rattle.walks.specs.Found.{Open, claims, Found, Decides, FindsAt}
-use Rattle.walks.proofs.Founds.{decides-false, same-start, finds-none, finds-done, done-injective, refused-never, found-join, found-first, found-second, claimable-open, length-claimed, length-claims}
+use Rattle.walks.specs.Found.{claims, Found, Decides, FindsAt}
+use Rattle.walks.proofs.Founds.{decides-false, same-start, finds-none, finds-done, done-injective, refused-never, found-join, found-first, found-second, found-lent, claimable-open}
 use Rattle.walks.proofs.Pieces.{Single, found-claimable, found-rest, found-cons, claim-done, claim-not}
-use Rattle.spans.specs.declared.Rule.{Rule}
 use Rattle.spans.specs.declared.Counted.{Counted}
 use Rattle.spans.specs.declared.Counted.the-variants.{Broken as NoSpans, Whole as AllSpans}
-use Rattle.spans.specs.Spans.{ruleOf, sized, entriesIn, SpansOk, whole, SpansFound}
+use Rattle.spans.specs.Spans.{Rule, ruleOf, sized, entriesIn, SpansOk, whole, SpansFound}
 use Rattle.towers.specs.Towers.{Spanned, HasSpans, TowersFound}
 use Rattle.towers.proofs.Heads.{spans-found}
 use Rattle.verify.specs.declared.table.Columned.{Columned}
@@ -88,8 +87,7 @@ module _ (rule : Rule) (img scr : List ℕ) (lent : Lent img scr) (root z : ℕ)
               others = x .others;
               spanned = spans-found img scr s n z (x .first) (x .others) lent (x .found) (x .named ∙ sym is);
             },
-            (let q : length s ≡ length scr = ap length (x .found .left) ∙ length-claims scr (gather pagesOf (map span (linkSpans z 0 (x .first ∷ x .others)))) in
-                record { size = omega (arith, lent .size); most = omega (arith, lent .most) }),
+            found-lent lent (x .found),
           )
 
       module _ (hd : ℕ) (on : hd ≡ be32 (pg img root) 12) (w : Walked) (t : List ℕ)
@@ -184,12 +182,6 @@ module _ (rule : Rule) (img scr : List ℕ) (lent : Lent img scr) (root z : ℕ)
 skip-single : (img : List ℕ) (k : SkipList) → Single img (skipList k) (k .page) 1
 unfolding skipMark
 skip-single img k = record { page = refl; mark = λ b. take-begins skipMark (pg img (k .page)) (b .mark) }
-
--- a skip-list page that is claimed is a page of the image
-pub table-open : (img scr : List ℕ) (root : ℕ) (b : Bool) (s : List ℕ) → Claimed img scr root 1 b s → b ≡ true → Open scr root × (length s ≡ length scr)
-table-open img scr root b s c e =
-    let d : (claimable img scr root 1 ≡ true) × (s ≡ claimed scr root) = claim-done img scr root 1 b s c e in
-    (claimable-open img scr root 1 (d .0) .0, ap length (d .1) ∙ length-claimed scr root)
 
 module _ (rule : Rule) (img scr : List ℕ) (root : ℕ) where
   abbrev Tab : ℕ → List ℕ → Type 0

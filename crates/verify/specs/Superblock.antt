@@ -2,10 +2,11 @@
 use Prim.Native.Nat.{ℕ, _*_}
 use mathlib.Core.Path.{_≡_}
 use mathlib.Core.List.{List, [], _∷_}
-use lib.ListN.{length, getD}
+use lib.ListN.{getD}
 use Rattle.blockfile.specs.Bytes.{be32, be64}
 use Rattle.blockfile.specs.Order.{Within}
 use Rattle.blockfile.specs.WellFormed.{superblock}
+use Rattle.heads.specs.Claims.{pagesIn}
 use Rattle.walks.specs.Found.{Found}
 use Rattle.verify.specs.declared.superblock.Superblock.{Superblock}
 
@@ -19,4 +20,4 @@ pub record Fixed (p : ℕ) (b : List ℕ) : Type 0 where
 -- the superblock is on page 1, which can be claimed
 pub record SuperFound (img scr : List ℕ) (a : Superblock) (out : List ℕ) : Type 0 where
   pub range : Within 2 128 (a .size)
-  pub found : Found img scr (superblock (length scr) (a .free) (a .size) ∷ []) out
+  pub found : Found img scr (superblock (pagesIn scr) (a .free) (a .size) ∷ []) out

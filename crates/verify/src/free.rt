@@ -1,12 +1,13 @@
 // The free list: its blocks and the pages they list.
-ghost use Prim.Native.Nat.{_+_, _*_, _≤_};
+ghost use Prim.Native.Nat.{_+_, _*_};
 ghost use mathlib.Core.Bool.{true};
 ghost use Rattle.pages.specs.Places.{Inside};
-ghost use Rattle.pages.specs.Claims.{Lent};
+ghost use Rattle.heads.specs.Claims.{Lent};
 ghost use Rattle.walks.specs.Found.{FindsAt};
 ghost use Rattle.walks.specs.declared.Walked.the-variants.{Done};
 ghost use Rattle.verify.specs.Free.{ListedFound, BlockFound, FreeFound};
-use pages::claim::claim;
+use heads::claim::claim;
+use heads::claim::link;
 use pages::mark::BLOCK;
 use pages::mark::FREE;
 use pages::read::get32;
@@ -20,7 +21,7 @@ fn claim_listed(image: &[u8], scratch: &mut [u8], page: usize, count: usize) -> 
     let mut i = 0;
     while i < count {
         let listed = get32(image, page, 16 + 4 * i);
-        if !claim(image, scratch, listed, FREE) {
+        if !claim(scratch, listed, FREE) {
             return false;
         }
         i += 1;
@@ -33,10 +34,10 @@ fn claim_block(image: &[u8], scratch: &mut [u8], page: usize) -> Walked
     requires { ⌜ Lent (now image) (now scratch) ⌝ }
     ensures { λ r. ⌜ FindsAt Done (BlockFound (now (image .entry)) (now (scratch .entry)) page) r (now (scratch .exit)) ⌝ }
 {
-    if !claim(image, scratch, page, BLOCK) {
+    if !claim(scratch, page, BLOCK) {
         return Walked::Refused;
     }
-    let count = get32(image, page, 12);
+    let count = link(scratch, page, 12);
     if 252 < count {
         return Walked::Refused;
     }
@@ -58,7 +59,7 @@ pub fn verify_free(image: &[u8], scratch: &mut [u8], start: usize) -> Walked
             return Walked::Refused;
         };
         free += n;
-        page = get32(image, page, 8);
+        page = link(scratch, page, 8);
     }
     Walked::Done(free)
 }

@@ -1,8 +1,7 @@
 // The whole image.
-ghost use mathlib.Core.Path.{_≡_};
 ghost use Prim.Native.Nat.{_≤_};
-ghost use lib.ListN.{length, replicate};
-ghost use Rattle.pages.specs.Claims.{Lent};
+ghost use lib.ListN.{length};
+ghost use Rattle.heads.specs.Claims.{Room, Headed};
 ghost use Rattle.verify.specs.Image.{Judged};
 use crate::free::verify_free;
 use crate::names::verify_tables;
@@ -10,9 +9,9 @@ use crate::superblock::Started;
 use crate::superblock::verify_superblock;
 use crate::table::verify_table;
 use blockfile::Counts;
-use pages::claim::all_claimed;
+use heads::claim::all_claimed;
+use heads::claim::copy_heads;
 use search::table::METAINDEX;
-use spans::Rule;
 use walks::Walked;
 
 // Not well-formed, or well-formed with what check counts.
@@ -21,15 +20,15 @@ pub enum Verdict {
     Good(Counts),
 }
 
-// Whether the image is well-formed. The scratch has a byte for each page, all 0.
-pub fn verify(image: &[u8], scratch: &mut [u8]) -> Verdict
-    requires { ⌜ Lent (now image) (now scratch) × (4 ≤ length (now scratch)) × (now scratch ≡ replicate (length (now scratch)) 0) ⌝ }
+// Whether the image is well-formed. The scratch has the heads of its pages, none of them claimed.
+fn judge(image: &[u8], scratch: &mut [u8]) -> Verdict
+    requires { ⌜ Headed (now image) (now scratch) × (4096 ≤ length (now image)) ⌝ }
     ensures { λ r. ⌜ Judged (now (image .entry)) r ⌝ }
 {
     let Started::Begun(s) = verify_superblock(image, scratch) else {
         return Verdict::Bad;
     };
-    let Walked::Done(tables) = verify_table(image, scratch, METAINDEX, Rule::Keys) else {
+    let Walked::Done(tables) = verify_table(image, scratch, METAINDEX) else {
         return Verdict::Bad;
     };
     let Walked::Done(keys) = verify_tables(image, scratch) else {
@@ -41,11 +40,20 @@ pub fn verify(image: &[u8], scratch: &mut [u8]) -> Verdict
     if !all_claimed(scratch) {
         return Verdict::Bad;
     }
-    let pages = scratch.len();
+    let pages = image.len() / 1024;
     Verdict::Good(Counts {
         pages,
         tables,
         keys,
         free,
     })
+}
+
+// Whether the image is well-formed. The scratch has room for the heads of its pages.
+pub fn verify(image: &[u8], scratch: &mut [u8]) -> Verdict
+    requires { ⌜ Room (now image) (now scratch) × (4096 ≤ length (now image)) ⌝ }
+    ensures { λ r. ⌜ Judged (now (image .entry)) r ⌝ }
+{
+    copy_heads(image, scratch);
+    judge(image, scratch)
 }

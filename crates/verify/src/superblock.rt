@@ -1,14 +1,14 @@
 // The superblock, page 1.
 ghost use mathlib.Core.Path.{_≡_};
-ghost use Prim.Native.Nat.{_*_, _≤_};
+ghost use Prim.Native.Nat.{_*_};
 ghost use lib.ListN.{length};
 ghost use Rattle.blockfile.specs.Bytes.{pg};
 ghost use Rattle.blockfile.specs.Order.{Within};
-ghost use Rattle.pages.specs.Claims.{Lent};
+ghost use Rattle.heads.specs.Claims.{Lent};
 ghost use Rattle.walks.specs.Found.{Decides, FindsAt};
 ghost use Rattle.verify.specs.declared.superblock.Started.the-variants.{Begun};
 ghost use Rattle.verify.specs.Superblock.{Fixed, SuperFound};
-use pages::claim::claim;
+use heads::claim::claim;
 use pages::mark::SUPERBLOCK;
 use pages::read::get16;
 use pages::read::get32;
@@ -49,10 +49,10 @@ pub fn verify_superblock(image: &[u8], scratch: &mut [u8]) -> Started
     requires { ⌜ Lent (now image) (now scratch) ⌝ }
     ensures { λ r. ⌜ FindsAt Begun (SuperFound (now (image .entry)) (now (scratch .entry))) r (now (scratch .exit)) ⌝ }
 {
-    if !claim(image, scratch, 1, SUPERBLOCK) {
+    if !claim(scratch, 1, SUPERBLOCK) {
         return Started::Refused;
     }
-    if !is_fixed(image, scratch.len()) {
+    if !is_fixed(image, image.len() / 1024) {
         return Started::Refused;
     }
     let mounted = get16(image, 1, 20);

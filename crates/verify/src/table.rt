@@ -1,19 +1,17 @@
 // A table: its skip-list page, its spans, its towers.
-ghost use Prim.Native.Nat.{_≤_};
 ghost use Rattle.blockfile.specs.Bytes.{pg};
 ghost use Rattle.blockfile.specs.Order.{Within};
 ghost use Rattle.pages.specs.Places.{Inside};
-ghost use Rattle.pages.specs.Claims.{Lent};
+ghost use Rattle.heads.specs.Claims.{Lent};
 ghost use Rattle.walks.specs.Found.{Decides, FindsAt};
 ghost use Rattle.walks.specs.declared.Walked.the-variants.{Done};
-ghost use Rattle.spans.specs.Spans.{ruleOf, sized};
+ghost use Rattle.spans.specs.Spans.{Keys, ruleOf, sized};
 ghost use Rattle.verify.specs.Tables.{columned, CountsAre, ColumnsFound, TableFound};
-use pages::claim::claim;
+use heads::claim::claim;
 use pages::mark::SKIP_LIST;
 use pages::read::get16;
 use pages::read::get32;
 use spans::Counted;
-use spans::Rule;
 use spans::verify_spans;
 use towers::verify_towers;
 use walks::Walked;
@@ -25,18 +23,12 @@ pub enum Columned {
 }
 
 // Claims and reads the spans and the towers of the table on `root`, whose span size is `most`.
-fn verify_columns(
-    image: &[u8],
-    scratch: &mut [u8],
-    root: usize,
-    most: usize,
-    rule: Rule,
-) -> Columned
+fn verify_columns(image: &[u8], scratch: &mut [u8], root: usize, most: usize) -> Columned
     requires { ⌜ Lent (now image) (now scratch) × Inside (now image) root 0 1024 × Within 2 128 most ⌝ }
-    ensures { λ r. ⌜ FindsAt columned (ColumnsFound (ruleOf rule) (sized rule) (now (image .entry)) (now (scratch .entry)) root most) r (now (scratch .exit)) ⌝ }
+    ensures { λ r. ⌜ FindsAt columned (ColumnsFound (ruleOf Keys) (sized Keys) (now (image .entry)) (now (scratch .entry)) root most) r (now (scratch .exit)) ⌝ }
 {
     let first = get32(image, root, 8);
-    let Counted::Whole(keys, spans) = verify_spans(image, scratch, first, most, rule) else {
+    let Counted::Whole(keys, spans) = verify_spans(image, scratch, first, most) else {
         return Columned::Broken;
     };
     let head = get32(image, root, 12);
@@ -64,11 +56,11 @@ fn are_counts(image: &[u8], root: usize, keys: usize, spans: usize, levels: usiz
 }
 
 // Claims and reads the table on `root`; answers its number of keys.
-pub fn verify_table(image: &[u8], scratch: &mut [u8], root: usize, rule: Rule) -> Walked
+pub fn verify_table(image: &[u8], scratch: &mut [u8], root: usize) -> Walked
     requires { ⌜ Lent (now image) (now scratch) ⌝ }
-    ensures { λ r. ⌜ FindsAt Done (TableFound (ruleOf rule) (sized rule) (now (image .entry)) (now (scratch .entry)) root) r (now (scratch .exit)) ⌝ }
+    ensures { λ r. ⌜ FindsAt Done (TableFound (ruleOf Keys) (sized Keys) (now (image .entry)) (now (scratch .entry)) root) r (now (scratch .exit)) ⌝ }
 {
-    if !claim(image, scratch, root, SKIP_LIST) {
+    if !claim(scratch, root, SKIP_LIST) {
         return Walked::Refused;
     }
     let most = get16(image, root, 28);
@@ -78,8 +70,7 @@ pub fn verify_table(image: &[u8], scratch: &mut [u8], root: usize, rule: Rule) -
     if 128 < most {
         return Walked::Refused;
     }
-    let Columned::Whole(keys, spans, levels) = verify_columns(image, scratch, root, most, rule)
-    else {
+    let Columned::Whole(keys, spans, levels) = verify_columns(image, scratch, root, most) else {
         return Walked::Refused;
     };
     if are_counts(image, root, keys, spans, levels) {

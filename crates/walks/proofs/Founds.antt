@@ -1,29 +1,32 @@
 -- Claims one after another, pieces found one after another, and when a walk's answer is right.
-use Prim.Native.Nat.{ℕ, zero, suc, _+_, _-_, _≤_, _<_, zero-le}
+use Prim.Native.Nat.{ℕ, zero, suc, _+_, _*_, _-_, _/_, _≤_, _<_, zero-le}
 use native.Mathlib.Omega.{arith}
+use native.Mathlib.Decide.{ℕ-discrete}
+use mathlib.Core.Logic.{by-cases}
 use mathlib.Core.Path.{_≡_, refl, ap, sym, _∙_, subst}
-use mathlib.Core.Bool.{Bool, true, false, cond, _&&_, true≢false}
+use mathlib.Core.Bool.{Bool, true, false, not, cond, _&&_, true≢false}
 use mathlib.Core.List.{List, [], _∷_, _++_}
 use lib.ListN.{length, getD, set, length-set}
-use lib.Dec.{T, eqb, leb}
-use borrow.Author.Tests.{eq-eqb, eqb-true, le-leb}
-use Rattle.blockfile.specs.Bytes.{pg}
+use lib.Seq.{getD-set-same, getD-set-other}
+use lib.Dec.{T, eqb, leb, leb→le}
+use borrow.Author.Tests.{eq-eqb, ne-eqb, le-leb}
+use Rattle.blockfile.specs.Bytes.{pg, gather}
 use Rattle.blockfile.specs.Marks.{marks}
-use Rattle.blockfile.specs.Order.{Within, within}
-use Rattle.blockfile.specs.WellFormed.{Piece, Bears}
-use Rattle.blockfile.proofs.Bools.{so, holds, and-both, within-is}
+use Rattle.blockfile.specs.WellFormed.{Piece, pagesOf, Bears}
+use Rattle.blockfile.proofs.Bools.{so, holds, and-both}
 use Rattle.blockfile.proofs.Every.{every-left, every-right, every-join}
 use Rattle.blockfile.proofs.Owned.{ownedBy, owned-append}
-use Rattle.pages.specs.Begins.{begins}
-use Rattle.pages.specs.Claims.{claimable, claimed}
+use Rattle.heads.specs.Begins.{begins}
+use Rattle.heads.specs.Claims.{Lent, claimable, claimed}
+use Rattle.heads.proofs.Claims.{lent-claimed}
 use Rattle.walks.specs.declared.Walked.the-variants.{Refused, Done}
-use Rattle.walks.specs.Found.{Open, Fresh, claims, zeros, Found, Decides, FindsAt}
+use Rattle.walks.specs.Found.{Open, Fresh, claims, unclaimedTo, unclaimed, Found, Decides, FindsAt}
 
 -- ---- Claims
 
 pub length-claimed : (scr : List ℕ) (n : ℕ) → length (claimed scr n) ≡ length scr
 unfolding claimed
-length-claimed scr n = length-set scr (n - 1) 1
+length-claimed scr n = length-set scr (16 * (n - 1)) 0
 
 pub length-claims : (scr ns : List ℕ) → length (claims scr ns) ≡ length scr
 length-claims scr [] = refl
@@ -45,49 +48,70 @@ pub fresh-right : (scr ns ms : List ℕ) → Fresh scr (ns ++ ms) → Fresh (cla
 fresh-right scr [] ms f = f
 fresh-right scr (n ∷ ns) ms f = fresh-right (claimed scr n) ns ms (f .1)
 
+-- claims keep the heads
+pub lent-claims : {img scr : List ℕ} (ns : List ℕ) → Lent img scr → Lent img (claims scr ns)
+lent-claims [] l = l
+lent-claims (n ∷ ns) l = lent-claims ns (lent-claimed n l)
+
 -- a claim leaves one page fewer unclaimed
-zeros-set : (scr : List ℕ) (i : ℕ) → i < length scr → getD scr i 0 ≡ 0 → zeros scr ≡ suc (zeros (set scr i 1))
-zeros-set [] i h e = absurd (omega arith)
-zeros-set (x ∷ s) zero h e = rw e
-zeros-set (x ∷ s) (suc i) h e = go (eqb x 0) (zeros-set s i (omega arith) e)
-  where
-    go : (b : Bool) → zeros s ≡ suc (zeros (set s i 1)) → cond b (suc (zeros s)) (zeros s) ≡ suc (cond b (suc (zeros (set s i 1))) (zeros (set s i 1)))
-    go true e = ap suc e
-    go false e = e
+unclaimed-same : (scr : List ℕ) (i p : ℕ) → p ≤ i → unclaimedTo (set scr (16 * i) 0) p ≡ unclaimedTo scr p
+unclaimed-same scr i zero h = refl
+unclaimed-same scr i (suc p) h = rw (getD-set-other scr (16 * i) (16 * p) 0 0 (omega arith), unclaimed-same scr i p (omega arith))
 
-pub zeros-claimed : (scr : List ℕ) (n : ℕ) → Open scr n → zeros scr ≡ suc (zeros (claimed scr n))
+unclaimed-set : (scr : List ℕ) (i p : ℕ) → i < p → 16 * i < length scr → (getD scr (16 * i) 0 ≡ 0 → ⊥) → unclaimedTo scr p ≡ suc (unclaimedTo (set scr (16 * i) 0) p)
+unclaimed-set scr i zero h l e = absurd (omega arith)
+unclaimed-set scr i (suc p) h l e =
+    by-cases (ℕ-discrete i p)
+    (λ q.
+    let here : getD (set scr (16 * i) 0) (16 * p) 0 ≡ 0 = rw (← q) (getD-set-same scr (16 * i) 0 0 l) in
+    let there : getD scr (16 * p) 0 ≡ 0 → ⊥ = λ z. e (rw q z) in
+    rw (ne-eqb (getD scr (16 * p) 0) 0 there, eq-eqb (getD (set scr (16 * i) 0) (16 * p) 0) 0 here, unclaimed-same scr i p (omega arith)))
+    (λ q.
+    let same : getD (set scr (16 * i) 0) (16 * p) 0 ≡ getD scr (16 * p) 0 = getD-set-other scr (16 * i) (16 * p) 0 0 (omega arith) in
+    rw same (go (eqb (getD scr (16 * p) 0) 0) (unclaimed-set scr i p (omega arith) l e)))
+  where
+    go : (b : Bool) {x y : ℕ} → x ≡ suc y → cond b x (suc x) ≡ suc (cond b y (suc y))
+    go true e = e
+    go false e = ap suc e
+
+pub unclaimed-claimed : (scr : List ℕ) (n : ℕ) → Open scr n → unclaimed scr ≡ suc (unclaimed (claimed scr n))
 unfolding claimed
-zeros-claimed scr n o = zeros-set scr (n - 1) (omega arith) (o .free)
+unclaimed-claimed scr n o =
+    unclaimed-set scr (n - 1) (length scr / 16) (omega (arith, o .low, o .high)) (omega (arith, o .low, o .high)) (o .free)
+    ∙ ap (λ (p : ℕ). suc (unclaimedTo (set scr (16 * (n - 1)) 0) (p / 16))) (sym (length-set scr (16 * (n - 1)) 0))
 
-pub zeros-claims : (scr ns : List ℕ) → Fresh scr ns → zeros scr ≡ length ns + zeros (claims scr ns)
-zeros-claims scr [] f = omega arith
-zeros-claims scr (n ∷ ns) f = omega (arith, zeros-claimed scr n (f .0), zeros-claims (claimed scr n) ns (f .1))
+pub unclaimed-claims : (scr ns : List ℕ) → Fresh scr ns → unclaimed scr ≡ length ns + unclaimed (claims scr ns)
+unclaimed-claims scr [] f = omega arith
+unclaimed-claims scr (n ∷ ns) f = omega (arith, unclaimed-claimed scr n (f .0), unclaimed-claims (claimed scr n) ns (f .1))
 
-pub zeros-most : (scr : List ℕ) → zeros scr ≤ length scr
-zeros-most [] = zero-le
-zeros-most (x ∷ s) = go (eqb x 0) (zeros-most s)
+unclaimed-below : (scr : List ℕ) (p : ℕ) → unclaimedTo scr p ≤ p
+unclaimed-below scr zero = zero-le
+unclaimed-below scr (suc p) = go (eqb (getD scr (16 * p) 0) 0) (unclaimed-below scr p)
   where
-    go : (b : Bool) → zeros s ≤ length s → cond b (suc (zeros s)) (zeros s) ≤ suc (length s)
+    go : (b : Bool) {x : ℕ} → x ≤ p → cond b x (suc x) ≤ suc p
     go true h = omega arith
     go false h = omega arith
+
+pub unclaimed-most : (scr : List ℕ) → 16 * unclaimed scr ≤ length scr
+unclaimed-most scr = let h : unclaimed scr ≤ length scr / 16 = unclaimed-below scr (length scr / 16) in omega (arith, h)
 
 -- ---- A page that can be claimed as a kind is open and begins with the kind's mark
 
 pub claimable-open : (img scr : List ℕ) (n k : ℕ) → claimable img scr n k ≡ true → Open scr n × (begins (getD marks k []) (pg img n) ≡ true)
 unfolding claimable
 claimable-open img scr n k e =
-    let a : T (within 1 (length scr) n) × T (eqb (getD scr (n - 1) 0) 0 && begins (getD marks k []) (pg img n))
-    = and-both (within 1 (length scr) n) _ (holds _ e) in
-    let b : T (eqb (getD scr (n - 1) 0) 0) × T (begins (getD marks k []) (pg img n)) = and-both (eqb (getD scr (n - 1) 0) 0) _ (a .1) in
-    let w : Within 1 (length scr) n = within-is 1 (length scr) n (a .0) in
-    (record { low = w .0; high = w .1; free = eqb-true (getD scr (n - 1) 0) 0 (so _ (b .0)) }, so _ (b .1))
+    let a : T (leb 1 n && leb (16 * n) (length scr)) × T (not (eqb (getD scr (16 * (n - 1)) 0) 0) && begins (getD marks k []) (pg img n))
+    = and-both (leb 1 n && leb (16 * n) (length scr)) _ (holds _ e) in
+    let b : T (leb 1 n) × T (leb (16 * n) (length scr)) = and-both (leb 1 n) _ (a .0) in
+    let c : T (not (eqb (getD scr (16 * (n - 1)) 0) 0)) × T (begins (getD marks k []) (pg img n)) = and-both (not (eqb (getD scr (16 * (n - 1)) 0) 0)) _ (a .1) in
+    (record { low = leb→le 1 n (b .0); high = leb→le (16 * n) (length scr) (b .1); free = λ z. rw (eq-eqb (getD scr (16 * (n - 1)) 0) 0 z) at (c .0) }, so _ (c .1))
 
 pub open-claimable : (img scr : List ℕ) (n k : ℕ) → Open scr n → begins (getD marks k []) (pg img n) ≡ true → claimable img scr n k ≡ true
 unfolding claimable
 open-claimable img scr n k o e =
     let a : leb 1 n ≡ true = le-leb 1 n (o .low) in
-    let b : leb n (length scr) ≡ true = le-leb n (length scr) (o .high) in
-    let c : eqb (getD scr (n - 1) 0) 0 ≡ true = eq-eqb (getD scr (n - 1) 0) 0 (o .free) in
+    let b : leb (16 * n) (length scr) ≡ true = le-leb (16 * n) (length scr) (o .high) in
+    let c : eqb (getD scr (16 * (n - 1)) 0) 0 ≡ false = ne-eqb (getD scr (16 * (n - 1)) 0) 0 (o .free) in
     rw (a, b, c) e
 
 -- ---- Pieces
@@ -119,6 +143,9 @@ module _ (img scr : List ℕ) (ps qs : List Piece) where
         fresh = fresh-right scr (ownedBy ps) (ownedBy qs) (subst (Fresh scr) (owned-append ps qs) (f .fresh));
         left = f .left ∙ ap (claims scr) (owned-append ps qs) ∙ claims-append scr (ownedBy ps) (ownedBy qs);
       }
+
+pub found-lent : {img scr : List ℕ} {ps : List Piece} {out : List ℕ} → Lent img scr → Found img scr ps out → Lent img out
+found-lent {img} {ps = ps} lent f = subst (Lent img) (sym (f .left)) (lent-claims (gather pagesOf ps) lent)
 
 -- ---- Answers
 

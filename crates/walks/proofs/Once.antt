@@ -1,30 +1,34 @@
 -- Pages claimed one after another are claimed once each; where all are claimed, each page is owned exactly once.
-use Prim.Native.Nat.{ℕ, suc, _+_, _-_, _≤_, _<_, zero-le}
+use Prim.Native.Nat.{ℕ, suc, _+_, _*_, _-_, _≤_, _<_, zero-le}
 use native.Mathlib.Omega.{arith}
 use native.Mathlib.Decide.{ℕ-discrete, decLt}
 use mathlib.Core.Path.{_≡_, refl, sym, _∙_, subst}
 use mathlib.Core.Logic.{by-cases}
 use mathlib.Core.Bool.{true, cond}
 use mathlib.Core.List.{List, [], _∷_}
-use lib.ListN.{length, getD, replicate, length-replicate, getD-replicate}
+use lib.ListN.{length, getD}
 use lib.Seq.{getD-set-same, getD-set-other}
 use borrow.Author.Tests.{ne-eqb, le-leb}
 use Rattle.blockfile.specs.Order.{Within, within}
 use Rattle.blockfile.specs.WellFormed.{count}
 use Rattle.blockfile.proofs.Bools.{not-so, within-is, bit-true, bit-low}
 use Rattle.blockfile.proofs.Count.{count-here, count-more}
-use Rattle.pages.specs.Claims.{claimed, full}
-use Rattle.pages.proofs.Claims.{full-at, full-of}
+use Rattle.heads.specs.Claims.{claimed, full}
+use Rattle.heads.proofs.Claims.{full-at, full-of}
 use Rattle.walks.specs.Found.{Open, Fresh, claims}
 use Rattle.walks.proofs.Founds.{length-claimed, length-claims}
 
-claimed-same : (scr : List ℕ) (n : ℕ) → n - 1 < length scr → getD (claimed scr n) (n - 1) 0 ≡ 1
-unfolding claimed
-claimed-same scr n h = getD-set-same scr (n - 1) 1 0 h
+-- the first byte of the head of page n
+abbrev byteOf : (scr : List ℕ) (n : ℕ) → ℕ
+byteOf scr n = getD scr (16 * (n - 1)) 0
 
-claimed-other : (scr : List ℕ) (n m : ℕ) → 1 ≤ n → 1 ≤ m → (n ≡ m → ⊥) → getD (claimed scr n) (m - 1) 0 ≡ getD scr (m - 1) 0
+claimed-same : (scr : List ℕ) (n : ℕ) → 16 * (n - 1) < length scr → byteOf (claimed scr n) n ≡ 0
 unfolding claimed
-claimed-other scr n m a b d = getD-set-other scr (n - 1) (m - 1) 1 0 (omega arith)
+claimed-same scr n h = getD-set-same scr (16 * (n - 1)) 0 0 h
+
+claimed-other : (scr : List ℕ) (n m : ℕ) → 1 ≤ n → 1 ≤ m → (n ≡ m → ⊥) → byteOf (claimed scr n) m ≡ byteOf scr m
+unfolding claimed
+claimed-other scr n m a b d = getD-set-other scr (16 * (n - 1)) (16 * (m - 1)) 0 0 (omega arith)
 
 count-other : (n m : ℕ) (ns : List ℕ) → (n ≡ m → ⊥) → count n (m ∷ ns) ≡ count n ns
 count-other n m ns d = rw (ne-eqb n m d) (omega arith)
@@ -40,11 +44,11 @@ fresh-distinct scr (m ∷ ns) f =
     let o : Open scr m = f .0 in
     let d : Distinct (claimed scr m) ns = fresh-distinct (claimed scr m) ns (f .1) in
     let gone : count m ns ≡ 0 =
-    by-cases (decLt 0 (count m ns)) (λ h. absurd (omega (arith, d .opened m h .free, claimed-same scr m (omega arith)))) (λ h. omega arith) in
+    by-cases (decLt 0 (count m ns)) (λ h. absurd (d .opened m h .free (claimed-same scr m (omega (arith, o .low, o .high))))) (λ h. omega arith) in
     record {
       opened = λ n h. by-cases (ℕ-discrete n m) (λ e. subst (Open scr) (sym e) o)
           (λ e. let p : Open (claimed scr m) n = d .opened n (omega (arith, count-other n m ns e)) in
-          record { low = p .low; high = omega (arith, p .high, length-claimed scr m); free = sym (claimed-other scr m n (o .low) (p .low) (λ q. e (sym q))) ∙ p .free });
+          record { low = p .low; high = omega (arith, p .high, length-claimed scr m); free = λ z. p .free (claimed-other scr m n (o .low) (p .low) (λ q. e (sym q)) ∙ z) });
       once = λ n. by-cases (ℕ-discrete n m) (λ e. omega (arith, subst (λ (x : ℕ). count x (m ∷ ns) ≡ 1 + count m ns) (sym e) (count-here m ns), gone))
           (λ e. omega (arith, count-other n m ns e, d .once n));
     }
@@ -58,20 +62,20 @@ distinct-fresh scr (m ∷ ns) d =
         opened = λ n h.
             let e : n ≡ m → ⊥ = λ q. omega (arith, d .once m, count-here m ns, subst (λ (x : ℕ). 1 ≤ count x ns) q h) in
             let p : Open scr n = d .opened n (omega (arith, count-other n m ns e)) in
-            record { low = p .low; high = omega (arith, p .high, length-claimed scr m); free = claimed-other scr m n (o .low) (p .low) (λ q. e (sym q)) ∙ p .free };
+            record { low = p .low; high = omega (arith, p .high, length-claimed scr m); free = λ z. p .free (sym (claimed-other scr m n (o .low) (p .low) (λ q. e (sym q))) ∙ z) };
         once = λ n. omega (arith, d .once n, count-more n m ns);
       }),
     )
 
 -- ---- What the claims leave in the scratch
 
-claims-out : (scr ns : List ℕ) (n : ℕ) → Fresh scr ns → 1 ≤ n → count n ns ≡ 0 → getD (claims scr ns) (n - 1) 0 ≡ getD scr (n - 1) 0
+claims-out : (scr ns : List ℕ) (n : ℕ) → Fresh scr ns → 1 ≤ n → count n ns ≡ 0 → byteOf (claims scr ns) n ≡ byteOf scr n
 claims-out scr [] n f l h = refl
 claims-out scr (m ∷ ns) n f l h =
     let d : m ≡ n → ⊥ = λ e. omega (arith, subst (λ (x : ℕ). count x (m ∷ ns) ≡ 1 + count x ns) e (count-here m ns)) in
     claims-out (claimed scr m) ns n (f .1) l (omega (arith, count-more n m ns)) ∙ claimed-other scr m n (f .0 .low) l d
 
-claims-in : (scr ns : List ℕ) (n : ℕ) → Fresh scr ns → 1 ≤ count n ns → getD (claims scr ns) (n - 1) 0 ≡ 1
+claims-in : (scr ns : List ℕ) (n : ℕ) → Fresh scr ns → 1 ≤ count n ns → byteOf (claims scr ns) n ≡ 0
 claims-in scr [] n f h = absurd (omega arith)
 claims-in scr (m ∷ ns) n f h =
     by-cases (decLt 0 (count n ns)) (λ l. claims-in (claimed scr m) ns n (f .1) l)
@@ -79,45 +83,49 @@ claims-in scr (m ∷ ns) n f h =
     let o : Open scr m = f .0 in
     let e : n ≡ m = by-cases (ℕ-discrete n m) (λ q. q) (λ q. absurd (omega (arith, count-other n m ns q))) in
     claims-out (claimed scr m) ns n (f .1) (omega arith) (omega arith)
-    ∙ subst (λ (x : ℕ). getD (claimed scr m) (x - 1) 0 ≡ 1) (sym e) (claimed-same scr m (omega arith)))
+    ∙ subst (λ (x : ℕ). byteOf (claimed scr m) x ≡ 0) (sym e) (claimed-same scr m (omega (arith, o .low, o .high))))
 
 -- ---- Each of the p pages once, and no other
 
-module _ (p : ℕ) (ns : List ℕ) where
+-- a scratch of p pages, none of them claimed
+pub record AllOpen (p : ℕ) (scr : List ℕ) : Type 0 where
+  pub long : length scr ≡ 16 * p
+  pub free : (j : ℕ) → 16 * j < length scr → getD scr (16 * j) 0 ≡ 0 → ⊥
+
+module _ (p : ℕ) (scr : List ℕ) (none : AllOpen p scr) (ns : List ℕ) where
   inside : (n : ℕ) → Within 1 p n → _≡_ {A = ℕ} (cond (within 1 p n) 1 0) 1
   inside n h = rw (le-leb 1 n (h .0), le-leb n p (h .1))
 
   outside : (n : ℕ) → (Within 1 p n → ⊥) → _≡_ {A = ℕ} (cond (within 1 p n) 1 0) 0
   outside n h = rw (not-so (within 1 p n) (λ t. h (within-is 1 p n t)))
 
-  pub claimed-once : Fresh (replicate p 0) ns → full (claims (replicate p 0) ns) ≡ true → (n : ℕ) → count n ns ≡ cond (within 1 p n) 1 0
+  pub claimed-once : Fresh scr ns → full (claims scr ns) ≡ true → (n : ℕ) → count n ns ≡ cond (within 1 p n) 1 0
   claimed-once f e n =
-      let d : Distinct (replicate p 0) ns = fresh-distinct (replicate p 0) ns f in
+      let d : Distinct scr ns = fresh-distinct scr ns f in
       by-cases (decLt 0 (count n ns))
-      (λ l. let o : Open (replicate p 0) n = d .opened n l in omega (arith, d .once n, inside n (o .low, omega (arith, o .high, length-replicate {A = ℕ} p 0))))
+      (λ l. let o : Open scr n = d .opened n l in omega (arith, d .once n, inside n (o .low, omega (arith, o .high, none .long))))
       (λ l. let z : count n ns ≡ 0 = omega arith in
-      z ∙ sym (outside n (λ w. full-at (claims (replicate p 0) ns) e (n - 1) (omega (arith, length-claims (replicate p 0) ns, length-replicate {A = ℕ} p 0, w .0, w .1))
-      (claims-out (replicate p 0) ns n f (w .0) z ∙ getD-replicate p (n - 1) 0 0 (omega (arith, w .0, w .1))))))
+      z ∙ sym (outside n (λ w. none .free (n - 1) (omega (arith, none .long, w .0, w .1))
+      (sym (claims-out scr ns n f (w .0) z) ∙ full-at (claims scr ns) e (n - 1) (omega (arith, length-claims scr ns, none .long, w .0, w .1))))))
 
-  pub once-claimed : ((n : ℕ) → count n ns ≡ cond (within 1 p n) 1 0) → Fresh (replicate p 0) ns × (full (claims (replicate p 0) ns) ≡ true)
-  once-claimed h =
-      (fresh, full-of (claims (replicate p 0) ns) (λ i l z. omega (arith, subst (λ (x : ℕ). getD (claims (replicate p 0) ns) x 0 ≡ 1) (at i) (claims-in (replicate p 0) ns (suc i) fresh (here i l)), z)))
+  pub once-claimed : ((n : ℕ) → count n ns ≡ cond (within 1 p n) 1 0) → Fresh scr ns × (full (claims scr ns) ≡ true)
+  once-claimed h = (fresh, full-of (claims scr ns) (λ i l. subst (λ (x : ℕ). getD (claims scr ns) (16 * x) 0 ≡ 0) (at i) (claims-in scr ns (suc i) fresh (here i l))))
     where
       at : (i : ℕ) → suc i - 1 ≡ i
       at i = omega arith
 
-      here : (i : ℕ) → i < length (claims (replicate p 0) ns) → 1 ≤ count (suc i) ns
-      here i l = omega (arith, h (suc i), inside (suc i) (omega (arith, length-claims (replicate p 0) ns, length-replicate {A = ℕ} p 0)))
+      here : (i : ℕ) → 16 * i + 16 ≤ length (claims scr ns) → 1 ≤ count (suc i) ns
+      here i l = omega (arith, h (suc i), inside (suc i) (omega (arith, length-claims scr ns, none .long)))
 
       counted : (n : ℕ) → 1 ≤ count n ns → Within 1 p n
       counted n l = within-is 1 p n (bit-true (within 1 p n) (subst (λ (m : ℕ). 1 ≤ m) (h n) l))
 
-      fresh : Fresh (replicate p 0) ns
+      fresh : Fresh scr ns
       fresh =
-          distinct-fresh (replicate p 0) ns
+          distinct-fresh scr ns
           (record {
             opened = λ n l.
                 let w : Within 1 p n = counted n l in
-                record { low = w .0; high = omega (arith, w .1, length-replicate {A = ℕ} p 0); free = getD-replicate p (n - 1) 0 0 (omega (arith, w .0, w .1)) };
+                record { low = w .0; high = omega (arith, w .1, none .long); free = none .free (n - 1) (omega (arith, w .0, w .1, none .long)) };
             once = λ n. subst (λ (m : ℕ). m ≤ 1) (sym (h n)) (bit-low (within 1 p n));
           })

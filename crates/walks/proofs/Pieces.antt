@@ -1,16 +1,19 @@
--- A claim of one page, and the piece that owns it.
-use Prim.Native.Nat.{ℕ}
+-- A claim of one page: the piece that owns it, and what can be read then.
+use Prim.Native.Nat.{ℕ, suc, _+_, _≤_}
+use native.Mathlib.Omega.{arith}
 use mathlib.Core.Path.{_≡_, ap, sym, _∙_, subst}
 use mathlib.Core.Bool.{Bool, true, false}
 use mathlib.Core.List.{List, [], _∷_, _++_}
-use lib.ListN.{getD}
-use Rattle.blockfile.specs.Bytes.{pg, gather}
+use lib.ListN.{length, getD}
+use Rattle.blockfile.specs.Bytes.{pg, be32, gather}
 use Rattle.blockfile.specs.Marks.{marks}
 use Rattle.blockfile.specs.WellFormed.{Piece, pagesOf, Bears}
-use Rattle.pages.specs.Begins.{begins}
-use Rattle.pages.specs.Claims.{claimable, claimed, Claimed}
-use Rattle.walks.specs.Found.{Open, Fresh, claims, Found}
-use Rattle.walks.proofs.Founds.{claimable-open, open-claimable}
+use Rattle.pages.specs.Places.{Inside, Number}
+use Rattle.heads.specs.Begins.{begins}
+use Rattle.heads.specs.Claims.{Lent, Linking, Claimed, claimable, claimed, linkAt}
+use Rattle.heads.proofs.Claims.{lent-claimed, link-read}
+use Rattle.walks.specs.Found.{Open, Fresh, claims, unclaimed, Found}
+use Rattle.walks.proofs.Founds.{length-claimed, unclaimed-claimed, claimable-open, open-claimable}
 
 -- the piece x owns page n alone, as kind k
 pub record Single (img : List ℕ) (x : Piece) (n k : ℕ) : Type 0 where
@@ -47,3 +50,36 @@ module _ (img scr : List ℕ) (n k : ℕ) (r : Bool) (out : List ℕ) (c : Claim
 
   pub claim-not : r ≡ false → claimable img scr n k ≡ false
   claim-not e = sym (c .answer) ∙ e
+
+-- what a claim that is granted tells
+module _ {img scr : List ℕ} {n k : ℕ} {r : Bool} {out : List ℕ} (c : Claimed img scr n k r out) (e : r ≡ true) where
+  pub claim-left : out ≡ claimed scr n
+  claim-left = claim-done img scr n k r out c e .1
+
+  pub claim-open : Open scr n
+  claim-open = claimable-open img scr n k (claim-done img scr n k r out c e .0) .0
+
+  pub claim-begins : begins (getD marks k []) (pg img n) ≡ true
+  claim-begins = claimable-open img scr n k (claim-done img scr n k r out c e .0) .1
+
+  pub claim-length : length out ≡ length scr
+  claim-length = ap length claim-left ∙ length-claimed scr n
+
+  pub claim-falls : unclaimed scr ≡ suc (unclaimed out)
+  claim-falls = unclaimed-claimed scr n claim-open ∙ ap (λ (s : List ℕ). suc (unclaimed s)) (sym claim-left)
+
+  module _ (lent : Lent img scr) where
+    pub claim-lent : Lent img out
+    claim-lent = subst (Lent img) (sym claim-left) (lent-claimed n lent)
+
+    -- the page can be read, and its links from its head
+    pub claim-inside : {o w : ℕ} → o + w ≤ 1024 → Inside img n o w
+    claim-inside fits =
+        record { small = omega (arith, lent .size, lent .most); low = claim-open .low; high = omega (arith, lent .size, claim-open .high); fits = fits }
+
+    module _ {o : ℕ} (some : 1 ≤ o) (fits : o + 4 ≤ 16) where
+      pub claim-linking : Linking out n o
+      claim-linking = record { small = claim-lent .most; low = claim-open .low; high = omega (arith, claim-open .high, claim-length); fits = fits }
+
+      pub claim-link : {top v : ℕ} → Number (linkAt out n o) top v → Number (be32 (pg img n) o) top v
+      claim-link x = link-read claim-lent n (claim-linking .low) (claim-linking .high) o some fits x

@@ -1,5 +1,5 @@
 -- What a walk finds: pieces that the image bears, each of their pages claimed once, in turn.
-use Prim.Native.Nat.{ℕ, suc, _-_, _≤_}
+use Prim.Native.Nat.{ℕ, zero, suc, _*_, _-_, _≤_}
 use mathlib.Core.Path.{_≡_}
 use mathlib.Core.Bool.{Bool, true, cond}
 use mathlib.Core.List.{List, [], _∷_}
@@ -7,13 +7,13 @@ use lib.ListN.{length, getD}
 use lib.Dec.{eqb}
 use Rattle.blockfile.specs.Bytes.{pg, Every, gather}
 use Rattle.blockfile.specs.WellFormed.{Piece, pagesOf, Bears}
-use Rattle.pages.specs.Claims.{claimed}
+use Rattle.heads.specs.Claims.{pagesIn, claimed}
 
 -- page n is one of the pages, and not claimed
 pub record Open (scr : List ℕ) (n : ℕ) : Type 0 where
   pub low : 1 ≤ n
-  pub high : n ≤ length scr
-  pub free : getD scr (n - 1) 0 ≡ 0
+  pub high : 16 * n ≤ length scr
+  pub free : getD scr (16 * (n - 1)) 0 ≡ 0 → ⊥
 
 -- each of the pages can be claimed, one after another; and the scratch then
 abbrev pub Fresh : (scr pages : List ℕ) → Type 0
@@ -24,10 +24,13 @@ abbrev pub claims : (scr pages : List ℕ) → List ℕ
 claims scr [] = scr
 claims scr (n ∷ ns) = claims (claimed scr n) ns
 
--- how many pages are not claimed
-abbrev pub zeros : List ℕ → ℕ
-zeros [] = 0
-zeros (x ∷ s) = cond (eqb x 0) (suc (zeros s)) (zeros s)
+-- how many of the first p pages, and of all pages, are not claimed
+abbrev pub unclaimedTo : (scr : List ℕ) (p : ℕ) → ℕ
+unclaimedTo scr zero = 0
+unclaimedTo scr (suc p) = cond (eqb (getD scr (16 * p) 0) 0) (unclaimedTo scr p) (suc (unclaimedTo scr p))
+
+abbrev pub unclaimed : List ℕ → ℕ
+unclaimed scr = unclaimedTo scr (pagesIn scr)
 
 -- the image bears the pieces, and their pages can be claimed; out is the scratch then
 pub record Found (img scr : List ℕ) (ps : List Piece) (out : List ℕ) : Type 0 where

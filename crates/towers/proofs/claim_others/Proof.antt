@@ -8,8 +8,8 @@ use borrow.Author.Tests.{not-true, not-false}
 use lib.ListN.{length}
 use Rattle.blockfile.specs.Bytes.{be16, be32}
 use Rattle.pages.specs.Places.{Inside}
-use Rattle.walks.specs.Found.{zeros}
-use Rattle.walks.proofs.Founds.{zeros-most}
+use Rattle.walks.specs.Found.{unclaimed}
+use Rattle.walks.proofs.Founds.{unclaimed-most}
 use Rattle.towers.proofs.Climbs.{Climbing, climbing-start, climbing-open, climbing-end, climbing-no, Turn, climbing-turn, climbing-next}
 use Rattle.towers.proofs.claim_others.Statement.{statement}
 use Rattle.towers.proofs.claim_others.Tie as tie
@@ -19,7 +19,7 @@ Inv-loop image scratch₀ head top start levels₀ next₀ count₀ page₀ scra
     Climbing image scratch₀ head top start scratch levels next count page
 
 abbrev μ-loop : tie.MeasureT-loop
-μ-loop image scratch₀ head top start levels₀ next₀ count₀ page₀ scratch levels next count page = zeros scratch
+μ-loop image scratch₀ head top start levels₀ next₀ count₀ page₀ scratch levels next count page = unclaimed scratch
 
 -- the lowest level is read as on the first page of an image
 in-levels : (levels : List ℕ) → length levels ≡ 1024 → Inside levels 1 16 4
@@ -32,10 +32,11 @@ loop-holds : tie.Need-loop-holds Inv-loop μ-loop
 unfolding be32 be16
 loop-holds c =
     let f = c .before .before .before in
-    climbing-start _ _ _ _ _ _ _ (f .before .before .before .before .pre .2) refl refl (f .follow .ensures) _ (c .get32 .ensures .is)
+    let s = f .before .before .before .before in
+    climbing-start _ _ _ _ _ _ _ (s .pre .0) (s .pre .2) refl refl (f .follow .ensures) _ (c .get32 .ensures .is)
 
 place-tower-requires : tie.Need-place-tower-requires Inv-loop μ-loop
-place-tower-requires c κs = (omega arith, omega arith, record { size = omega arith; most = omega arith }, c .before .before .before .loop .inv .linked)
+place-tower-requires c κs = (omega arith, omega arith, c .before .before .before .loop .inv .lent, c .before .before .before .loop .inv .linked)
 
 returns : tie.Need-returns Inv-loop μ-loop
 returns c =
@@ -61,24 +62,30 @@ follow-requires-2 c κs =
 get32-requires-2 : tie.Need-get32-requires-2 Inv-loop μ-loop
 get32-requires-2 c κs = let t = turn (c .before .before .before) in record { small = omega arith; low = omega arith; high = omega arith; fits = omega arith }
 
+link-requires : tie.Need-link-requires Inv-loop μ-loop
+link-requires c κs =
+    let t = turn (c .before .before .before .before .before) in
+    record { small = t .lent .most; low = omega arith; high = omega (arith, t .lent .size); fits = omega arith }
+
 get32-requires-3 : tie.Need-get32-requires-3 Inv-loop μ-loop
 get32-requires-3 c κs =
-    let t = turn (c .before .before .before .before) in record { small = omega arith; low = omega arith; high = omega arith; fits = omega arith }
+    let t = turn (c .before .before .before .before .before .before) in
+    record { small = omega arith; low = t .page .low; high = omega (arith, t .page .high); fits = omega arith }
 
 add-count : tie.Need-add-count Inv-loop μ-loop
 add-count c =
-    let k = c .before .before .before .before .before in
+    let k = c .before .before .before .before .before .before in
     let s = k .before .before .before .before .before .before .before .before .before .before .before .before .before .before .before .before .before in
-    omega (arith, turn k .falls, zeros-most (s .args .scratch .now), s .pre .0 .most)
+    omega (arith, turn k .falls, unclaimed-most (s .args .scratch .now), s .pre .0 .most)
 
 loop-again : tie.Need-loop-again Inv-loop μ-loop
 loop-again c =
-    let g = c .before .before in
-    let k = g .before .before .before .before .before in
+    let g = c .before in
+    let k = g .before .before .before .before .before .before in
     let placed = k .before .before .before .before .before in
     let in-loop = placed .before .before .before in
     climbing-next _ _ _ _ _ _ _ _ _ _ (in-loop .before .loop .inv) (in-loop .loop-test .taken) _ _ (placed .place-tower .ensures) _ (k .before .height .given .1)
-    _ (g .before .before .before .follow2 .ensures) _ _ (g .before .get322 .ensures .is) (g .get323 .ensures .is) _ (c .get324 .ensures .is)
+    _ (g .before .before .before .before .follow2 .ensures) _ _ (g .before .before .get322 .ensures .is) (g .link .ensures .is) _ (c .get323 .ensures .is)
 
 returns-2 : tie.Need-returns-2 Inv-loop μ-loop
 returns-2 c =
@@ -116,10 +123,9 @@ claim-others-spec =
     (λ c. sym (c .before .before .before .before .before .before .before .before .before .before .loop .inv .wide))
     follow-requires-2
     get32-requires-2
-    get32-requires-3
+    link-requires
     add-count
-    (λ c. sym (wide-next (c .before .before .before .before)))
-    (λ c κs. in-levels _ (wide-next (c .before .before .before .before)))
+    get32-requires-3
     (λ c. omega (arith, turn (c .before .before .before .before .before .before .before) .falls))
     loop-again
     (λ c. sym (c .before .before .loop .inv .wide))

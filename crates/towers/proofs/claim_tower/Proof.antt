@@ -8,11 +8,15 @@ use Rattle.towers.proofs.claim_tower.Statement.{statement}
 use Rattle.towers.proofs.claim_tower.Tie as tie
 
 returns : tie.Need-returns
-returns c = tower-no _ _ _ _ _ _ _ (c .before .before .before .claim .ensures) (not-true _ (c .if1 .taken))
+returns c =
+    let k = c .before .before .before in
+    tower-no _ _ _ _ _ _ _ (k .claim .ensures _ (k .before .before .before .before .pre)) (not-true _ (c .if1 .taken))
 
 -- the tower's page was claimed
 opened : (c : tie.Else1) → let a = c .before .before .before .before .before .before .before .args in Open (a .scratch .now) (a .page)
-opened c = tower-open _ _ 0 0 _ _ _ (c .before .before .before .claim .ensures) (not-false _ (c .if1 .left))
+opened c =
+    let k = c .before .before .before in
+    tower-open _ _ 0 0 _ _ _ (k .claim .ensures _ (k .before .before .before .before .pre)) (not-false _ (c .if1 .left))
 
 get16-requires : tie.Need-get16-requires
 get16-requires c κs = let o = opened c in record { small = omega arith; low = omega arith; high = omega arith; fits = omega arith }
@@ -23,13 +27,15 @@ get16-requires-2 c κs = let o = opened (c .before) in record { small = omega ar
 returns-2 : tie.Need-returns-2
 returns-2 c =
     let e = c .before .before .before .before in
-    tower-not _ _ _ _ _ _ _ (e .before .before .before .claim .ensures) (not-false _ (e .if1 .left))
+    let k = e .before .before .before in
+    tower-not _ _ _ _ _ _ _ (k .claim .ensures _ (k .before .before .before .before .pre)) (not-false _ (e .if1 .left))
     _ _ (c .before .before .before .get16 .ensures .is) (c .before .before .get162 .ensures .is) _ (c .before .is-tall .ensures) (not-true _ (c .if2 .taken))
 
 returns-3 : tie.Need-returns-3
 returns-3 c =
     let e = c .before .before .before .before in
-    tower-done _ _ _ _ _ _ _ (e .before .before .before .claim .ensures) (not-false _ (e .if1 .left))
+    let k = e .before .before .before in
+    tower-done _ _ _ _ _ _ _ (k .claim .ensures _ (k .before .before .before .before .pre)) (not-false _ (e .if1 .left))
     _ _ (c .before .before .before .get16 .ensures .is) (c .before .before .get162 .ensures .is) _ (c .before .is-tall .ensures) (not-false _ (c .if2 .left))
 
 pub claim-tower-spec : {M : Type 1} → statement M

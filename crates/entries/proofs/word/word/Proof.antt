@@ -5,7 +5,7 @@ use Rattle.entries.proofs.word.word.Statement.{statement}
 use Rattle.entries.proofs.word.word.Tie as tie
 
 returns : tie.Need-returns
-returns c = word-is _ _ (c .before .half .ensures .is) (c .half2 .ensures .is)
+returns c = word-is _ _ (c .before .word32 .ensures .is) (c .word322 .ensures .is)
 
 pub word-spec : {M : Type 1} → statement M
 word-spec =

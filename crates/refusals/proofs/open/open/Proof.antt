@@ -6,7 +6,7 @@ use borrow.Author.Needs.{needs}
 use borrow.Author.Tests.{not-true, not-false}
 use lib.ListN.{length, drop}
 use Rattle.blockfile.specs.Calls.{lengthOk, bad-length, short-scratch}
-use Rattle.refusals.proofs.Opens.{Fits, part-long, lent, kept, bad, good}
+use Rattle.refusals.proofs.Opens.{Fits, part-long, room, kept, bad, good}
 use Rattle.refusals.proofs.open.open.Statement.{statement}
 use Rattle.refusals.proofs.open.open.Tie as tie
 
@@ -26,9 +26,6 @@ ok c = sym (c .before .is-length .ensures) ∙ not-false _ (c .if1 .left)
 returns-2 : tie.Need-returns-2
 returns-2 c = λ op room. short-scratch (ok (c .before)) (c .if2 .taken) refl refl
 
-clear-requires : tie.Need-clear-requires
-clear-requires c κs = search needs
-
 -- both lengths are right
 fits : (c : tie.Else2) → Fits (start (c .before) .args .image .now) (start (c .before) .args .scratch .now)
 fits c = record { sized = ok (c .before); enough = c .if2 .left }
@@ -37,10 +34,10 @@ slice-relend-prefix-verify : tie.Need-slice-relend-prefix-verify
 slice-relend-prefix-verify c = search needs
 
 slice-aggregate-verify : tie.Need-slice-aggregate-verify
-slice-aggregate-verify c = let d = c .before .before .before in sym (part-long _ _ _ (fits (d .before .before)) (d .clear .ensures))
+slice-aggregate-verify c = sym (part-long _ _ (fits (c .before)))
 
 verify-requires : tie.Need-verify-requires
-verify-requires c κs = let d = c .before .before .before in lent _ _ _ (fits (d .before .before)) (d .clear .ensures)
+verify-requires c κs = room _ _ (fits (c .before))
 
 enum-known-counts : tie.Need-enum-known-counts
 enum-known-counts c = search needs
@@ -48,28 +45,26 @@ enum-known-counts c = search needs
 enum-told : tie.Need-enum-told
 enum-told c = search needs
 
-clear-requires-2 : tie.Need-clear-requires-2
-clear-requires-2 c κs = search needs
+clear-requires : tie.Need-clear-requires
+clear-requires c κs = search needs
 
 same-length : tie.Need-same-length
 same-length c = search needs
 
 -- what verify left of the scratch
 left : (c : tie.After-verify)
-    → let d = c .before .before .before .before in
-    let s = start (d .before .before .before) in
-    let out = (c .verify .last .1 .0) ++ drop (length (s .args .image .now) / 1024) (d .clear .last .0) in
+    → let s = start (c .before .before .before) in
+    let out = (c .verify .last .1 .0) ++ drop (length (s .args .image .now) / 64) (s .args .scratch .now) in
     (length out ≡ length (s .args .scratch .now)) × (drop (length (s .args .image .now)) out ≡ drop (length (s .args .image .now)) (s .args .scratch .now))
 left c =
-    let d = c .before .before .before .before in
-    let f = fits (d .before .before) in
-    kept _ _ _ f (d .clear .ensures) (c .verify .last .1 .0) (c .verify .kept .1 .0 ∙ part-long _ _ _ f (d .clear .ensures))
+    let f = fits (c .before .before) in
+    kept _ _ f (c .verify .last .1 .0) (c .verify .kept .1 .0 ∙ part-long _ _ f)
 
 returns-3 : tie.Need-returns-3
 returns-3 c =
     let t = c .before .before .before .before in
     let v = t .before .before .before .before in
-    bad _ _ (fits (v .before .before .before .before .before .before)) _ (v .verify .ensures) (t .enum-told .given .1) _ _ (left v .1) (c .before .before .clear2 .ensures)
+    bad _ _ (fits (v .before .before)) _ (v .verify .ensures) (t .enum-told .given .1) _ _ (left v .1) (c .before .before .clear .ensures)
 
 same-length-2 : tie.Need-same-length-2
 same-length-2 c = search needs
@@ -77,7 +72,7 @@ same-length-2 c = search needs
 returns-4 : tie.Need-returns-4
 returns-4 c =
     let v = c .before .before .before .before .before in
-    good _ _ (fits (v .before .before .before .before .before .before)) _ (v .verify .ensures) _ (c .before .counts .given .1) _ (left v .0) (left v .1)
+    good _ _ (fits (v .before .before)) _ (v .verify .ensures) _ (c .before .counts .given .1) _ (left v .0) (left v .1)
 
 pub open-spec : {M : Type 1} → statement M
 open-spec =
@@ -86,13 +81,12 @@ open-spec =
     is-length-requires
     returns
     returns-2
-    clear-requires
     slice-relend-prefix-verify
     slice-aggregate-verify
     verify-requires
     enum-known-counts
     enum-told
-    clear-requires-2
+    clear-requires
     same-length
     returns-3
     same-length-2

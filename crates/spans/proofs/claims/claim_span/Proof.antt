@@ -1,30 +1,44 @@
 -- `spans::claims::claim_span` meets its contract: the span's page, then its continuation pages.
 use native.Mathlib.Omega.{arith}
 use borrow.Author.Needs.{needs}
-use Rattle.spans.proofs.PageClaims.{claim-inside, pages-no, pages-then}
+use Rattle.walks.proofs.Pieces.{claim-lent, claim-linking, claim-link}
+use Rattle.spans.proofs.PageClaims.{pages-no, pages-then}
 use Rattle.spans.proofs.claims.claim_span.Statement.{statement}
 use Rattle.spans.proofs.claims.claim_span.Tie as tie
 
-get32-requires : tie.Need-get32-requires
-get32-requires c κs = claim-inside (c .before .before .before .claim .ensures) (c .if1 .taken) (c .before .before .before .before .before .before .before .before .pre .0) 4 4 (omega arith)
+link-requires : tie.Need-link-requires
+link-requires c κs =
+    let d = c .before in
+    let v = d .before .before .before in
+    let k = v .before .before .before .before .pre .0 in
+    claim-linking (v .claim .ensures (k .0) (k .1)) (d .if1 .taken) (k .1) (omega arith) (omega arith)
+
+claim-conts-requires : tie.Need-claim-conts-requires
+claim-conts-requires c κs =
+    let d = c .before .before .before .before in
+    let v = d .before .before .before in
+    let k = v .before .before .before .before .pre .0 in
+    ((k .0, claim-lent (v .claim .ensures (k .0) (k .1)) (d .if1 .taken) (k .1)), search needs)
 
 returns : tie.Need-returns
-returns c =
+returns c img lent =
     let conts = c .before .before .before .before in
     let got = conts .before .before .before in
-    let d = got .before in
-    pages-then (d .before .before .before .claim .ensures) (d .if1 .taken) _ (got .get32 .ensures .is) (conts .claim-conts .ensures)
+    let d = got .before .before in
+    let v = d .before .before .before in
+    let claim = v .claim .ensures img lent in
+    pages-then claim (d .if1 .taken) _ (claim-link claim (d .if1 .taken) lent (omega arith) (omega arith) (got .link .ensures) .is) (conts .claim-conts .ensures img (claim-lent claim (d .if1 .taken) lent))
 
 returns-2 : tie.Need-returns-2
-returns-2 c = pages-no (c .before .before .before .claim .ensures) (c .if1 .left)
+returns-2 c img lent = pages-no (c .before .before .before .claim .ensures img lent) (c .if1 .left)
 
 pub claim-span-spec : {M : Type 1} → statement M
 claim-span-spec =
     tie.close
     (tie.spec
-    (λ c κs. search needs)
-    get32-requires
-    (λ c κs. search needs)
+    (λ c κs. omega arith)
+    link-requires
+    claim-conts-requires
     (λ c. search needs)
     (λ c. search needs)
     returns

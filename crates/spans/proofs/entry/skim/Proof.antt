@@ -3,15 +3,16 @@ use Prim.Native.Nat.{_-_, _≤_}
 use native.Mathlib.Omega.{arith}
 use mathlib.Core.Path.{refl}
 use borrow.Author.Needs.{needs}
+use Rattle.spans.specs.Spans.{Keys}
 use Rattle.spans.proofs.Runs.{Walking, walking-start, walking-ready, walking-end, walking-more, whole-enough, tried-on}
 use Rattle.spans.proofs.entry.skim.Statement.{statement}
 use Rattle.spans.proofs.entry.skim.Tie as tie
 
 abbrev Inv-loop : tie.InvT-loop
-Inv-loop image left size rule here₀ rest₀ key₀ i₀ here rest key i = Walking rule image here₀ key₀ here rest key i × (i ≤ size)
+Inv-loop image left size here₀ rest₀ key₀ i₀ here rest key i = Walking Keys image here₀ key₀ here rest key i × (i ≤ size)
 
 abbrev μ-loop : tie.MeasureT-loop
-μ-loop image left size rule here₀ rest₀ key₀ i₀ here rest key i = size - i
+μ-loop image left size here₀ rest₀ key₀ i₀ here rest key i = size - i
 
 loop-holds : tie.Need-loop-holds Inv-loop μ-loop
 loop-holds c = (walking-start _ (c .before .pre), omega arith)

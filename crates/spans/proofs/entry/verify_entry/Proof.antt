@@ -1,10 +1,11 @@
 -- `spans::entry::verify_entry` meets its contract: each way out has its law.
+use Prim.Native.Nat.{_≤_}
 use native.Mathlib.Omega.{arith}
 use mathlib.Core.Path.{refl}
 use borrow.Author.Needs.{needs}
 use borrow.Author.Tests.{not-true, not-false}
 use Rattle.entries.proofs.Places.{gap-most}
-use Rattle.spans.proofs.Runs.{entry-short, entry-enough, entry-over, entry-keys, entry-not, entry-some, entry-barred, entry-done}
+use Rattle.spans.proofs.Runs.{entry-short, entry-enough, entry-over, entry-keys, entry-not, entry-some, entry-done}
 use Rattle.spans.proofs.Charts.{spread-on}
 use Rattle.spans.proofs.entry.verify_entry.Statement.{statement}
 use Rattle.spans.proofs.entry.verify_entry.Tie as tie
@@ -34,41 +35,34 @@ returns-3 c =
     let d = e .before .before .before in
     entry-not (d .before .before .before .before .pre .0) (d .before .gap .ensures) (e .before .before .lengths .ensures) (d .if1 .left) (e .if2 .left) (c .before .above .ensures) (not-true _ (c .if3 .taken))
 
-allowed-requires : tie.Need-allowed-requires
-allowed-requires c κs =
-    let e = c .before .before in
-    let d = e .before .before .before in
-    let some = entry-some (d .before .before .before .before .pre .0) (d .before .gap .ensures) (e .before .before .lengths .ensures) (d .if1 .left) (e .if2 .left) (c .before .above .ensures) (not-false _ (c .if3 .left)) in
-    (entry-keys (d .before .before .before .before .pre .0) (d .before .gap .ensures) (e .before .before .lengths .ensures) (d .if1 .left) (e .if2 .left) .1, some, omega arith, omega arith)
-
-returns-4 : tie.Need-returns-4
-returns-4 c =
-    let e = c .before .before .before .before in
-    let d = e .before .before .before in
-    entry-barred (d .before .before .before .before .pre .0) (d .before .gap .ensures) (e .before .before .lengths .ensures) (d .if1 .left) (e .if2 .left) (c .before .before .before .above .ensures) (not-false _ (c .before .before .if3 .left)) (c .before .allowed .ensures)
-    (not-true _ (c .if4 .taken))
-
 leap-requires : tie.Need-leap-requires
 leap-requires c κs =
-    let e = c .before .before .before .before in
+    let e = c .before .before in
     let d = e .before .before .before in
     let g = d .before .gap .ensures in
     (spread-on (d .before .before .before .before .pre .1) (omega (arith, g, d .if1 .left)) (e .before .before .lengths .ensures .moved) (omega (arith, g)), omega (arith, e .if2 .left))
 
+-- the key is not empty
+some : (c : tie.Else3) → 1 ≤ c .before .before .before .before .lengths .result .key
+some c =
+    let e = c .before .before in
+    let d = e .before .before .before in
+    entry-some (d .before .before .before .before .pre .0) (d .before .gap .ensures) (e .before .before .lengths .ensures) (d .if1 .left) (e .if2 .left) (c .before .above .ensures) (not-false _ (c .if3 .left))
+
 prefix-most-requires : tie.Need-prefix-most-requires
 prefix-most-requires c κs =
-    let e = c .before .before .before .before .before in
-    let d = e .before .before .before in
-    let some = entry-some (d .before .before .before .before .pre .0) (d .before .gap .ensures) (e .before .before .lengths .ensures) (d .if1 .left) (e .if2 .left) (c .before .before .before .before .above .ensures) (not-false _ (c .before .before .before .if3 .left)) in
-    (entry-keys (d .before .before .before .before .pre .0) (d .before .gap .ensures) (e .before .before .lengths .ensures) (d .if1 .left) (e .if2 .left) .1, some)
-
-returns-5 : tie.Need-returns-5
-returns-5 c =
     let f = c .before in
-    let e = f .before .before .before .before .before in
+    let e = f .before .before in
     let d = e .before .before .before in
-    entry-done (d .before .before .before .before .pre .0) (d .before .gap .ensures) (e .before .before .lengths .ensures) (d .if1 .left) (e .if2 .left) (f .before .before .before .before .above .ensures) (not-false _ (f .before .before .before .if3 .left)) (f .before .before .allowed .ensures)
-    (not-false _ (f .before .if4 .left)) (f .leap .ensures) (c .prefix-most .ensures) refl
+    (entry-keys (d .before .before .before .before .pre .0) (d .before .gap .ensures) (e .before .before .lengths .ensures) (d .if1 .left) (e .if2 .left) .1, some f)
+
+returns-4 : tie.Need-returns-4
+returns-4 c =
+    let f = c .before .before in
+    let e = f .before .before in
+    let d = e .before .before .before in
+    let z = e .before .before .lengths .ensures in
+    entry-done (d .before .before .before .before .pre .0) (d .before .gap .ensures) z (d .if1 .left) (e .if2 .left) (f .before .above .ensures) (not-false _ (f .if3 .left)) (c .before .leap .ensures) (c .prefix-most .ensures) refl
 
 pub verify-entry-spec : {M : Type 1} → statement M
 verify-entry-spec =
@@ -84,8 +78,6 @@ verify-entry-spec =
     returns-2
     above-requires
     returns-3
-    allowed-requires
-    returns-4
     (λ c. search needs)
     (λ c. search needs)
     leap-requires
@@ -93,4 +85,4 @@ verify-entry-spec =
     (λ c. search needs)
     (λ c. search needs)
     (λ c. search needs)
-    returns-5)
+    returns-4)

@@ -1,81 +1,77 @@
+-- `claim_block` meets its contract: the block's page, then the pages it lists.
 use native.Mathlib.Omega.{arith}
 use borrow.Author.Needs.{needs}
 use borrow.Author.Tests.{not-true, not-false}
-use Rattle.verify.proofs.Frees.{block-no, block-open, block-over, block-not, block-done}
+use mathlib.Core.Path.{_≡_}
+use Rattle.blockfile.specs.Bytes.{pg, be32}
+use Rattle.heads.specs.Claims.{Claimed}
+use Rattle.walks.proofs.Pieces.{claim-lent, claim-inside, claim-linking, claim-link}
+use Rattle.verify.proofs.Frees.{block-no, block-over, block-not, block-done}
 use Rattle.verify.proofs.free.claim_block.Statement.{statement}
 use Rattle.verify.proofs.free.claim_block.Tie as tie
-use Rattle.verify.proofs.free.claim_block.Reads as reads
-use Rattle.verify.proofs.free.claim_block.Lts as lts
-use Rattle.pages.proofs.claim.claim.Reads as claim-reads
-use Rattle.pages.proofs.read.get32.Reads as get32-reads
-use Rattle.verify.proofs.free.claim_listed.Reads as claim-listed-reads
 
-claim-requires : tie.Need-claim-requires
-claim-requires c κs = search needs
+abbrev start : tie.After-claim → tie.Start
+start v = v .before .before .before .before
 
-same-length : tie.Need-same-length
-same-length c = search needs
+-- the claim of the block's page
+abbrev claim : (v : tie.After-claim) → Claimed (start v .args .image .now) (start v .args .scratch .now) (start v .args .page) 5 (v .claim .result) (v .claim .last .0)
+claim v = v .claim .ensures _ (start v .pre)
+
+-- its count
+count : (g : tie.After-link) → let s = start (g .before .before .before .before .before) in g .link .result ≡ be32 (pg (s .args .image .now) (s .args .page)) 12
+count g =
+    let d = g .before .before in
+    let v = d .before .before .before in
+    claim-link (claim v) (not-false _ (d .if1 .left)) (start v .pre) (omega arith) (omega arith) (g .link .ensures) .is
 
 returns : tie.Need-returns
-returns c = block-no _ _ _ _ _ (c .before .before .before .claim .ensures) (not-true _ (c .if1 .taken))
+returns c = block-no _ _ _ _ _ (claim (c .before .before .before)) (not-true _ (c .if1 .taken))
 
-get32-requires : tie.Need-get32-requires
-get32-requires c κs =
-    let o = block-open _ _ _ _ _ (c .before .before .before .claim .ensures) (not-false _ (c .if1 .left)) in
-    record { small = omega arith; low = omega arith; high = omega arith; fits = omega arith }
-
-same-length-2 : tie.Need-same-length-2
-same-length-2 c = search needs
+link-requires : tie.Need-link-requires
+link-requires c κs =
+    let d = c .before in
+    let v = d .before .before .before in
+    claim-linking (claim v) (not-false _ (d .if1 .left)) (start v .pre) (omega arith) (omega arith)
 
 returns-2 : tie.Need-returns-2
 returns-2 c =
-    let d = c .before .before in
-    block-over _ _ _ _ _ (d .before .before .before .claim .ensures) (not-false _ (d .if1 .left)) _ (c .before .get32 .ensures .is) (c .if2 .taken)
+    let d = c .before .before .before in
+    block-over _ _ _ _ _ (claim (d .before .before .before)) (not-false _ (d .if1 .left)) _ (count (c .before)) (c .if2 .taken)
 
 claim-listed-requires : tie.Need-claim-listed-requires
 claim-listed-requires c κs =
-    let d = c .before .before .before in
-    let o = block-open _ _ _ _ _ (d .before .before .before .claim .ensures) (not-false _ (d .if1 .left)) in
-    (record { size = omega arith; most = omega arith }, record { small = omega arith; low = omega arith; high = omega arith; fits = omega arith })
-
-add-t12 : tie.Need-add-t12
-add-t12 c = search needs
-
-same-length-3 : tie.Need-same-length-3
-same-length-3 c = search needs
+    let d = c .before .before .before .before in
+    let v = d .before .before .before in
+    let done = not-false _ (d .if1 .left) in
+    (claim-lent (claim v) done (start v .pre), claim-inside (claim v) done (start v .pre) (omega arith))
 
 returns-3 : tie.Need-returns-3
 returns-3 c =
     let l = c .before .before .before in
     let g = l .before .before .before in
-    let d = g .before in
-    block-done _ _ _ _ _ (d .before .before .before .claim .ensures) (not-false _ (d .if1 .left)) _ (g .get32 .ensures .is) _ _ (l .claim-listed .ensures)
-    (l .before .before .if2 .left) (c .if3 .taken)
-
-same-length-4 : tie.Need-same-length-4
-same-length-4 c = search needs
+    let d = g .before .before in
+    block-done _ _ _ _ _ (claim (d .before .before .before)) (not-false _ (d .if1 .left)) _ (count g) _ _ (l .claim-listed .ensures) (l .before .before .if2 .left) (c .if3 .taken)
 
 returns-4 : tie.Need-returns-4
 returns-4 c =
     let l = c .before .before .before in
     let g = l .before .before .before in
-    let d = g .before in
-    block-not _ _ _ _ _ (d .before .before .before .claim .ensures) (not-false _ (d .if1 .left)) _ (g .get32 .ensures .is) _ _ (l .claim-listed .ensures)
-    (c .if3 .left)
+    let d = g .before .before in
+    block-not _ _ _ _ _ (claim (d .before .before .before)) (not-false _ (d .if1 .left)) _ (count g) _ _ (l .claim-listed .ensures) (c .if3 .left)
 
 pub claim-block-spec : {M : Type 1} → statement M
 claim-block-spec =
     tie.close
     (tie.spec
-    claim-requires
-    same-length
+    (λ c κs. search needs)
+    (λ c. search needs)
     returns
-    get32-requires
-    same-length-2
+    link-requires
+    (λ c. search needs)
     returns-2
     claim-listed-requires
-    add-t12
-    same-length-3
+    (λ c. search needs)
+    (λ c. search needs)
     returns-3
-    same-length-4
+    (λ c. search needs)
     returns-4)

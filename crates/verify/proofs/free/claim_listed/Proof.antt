@@ -4,10 +4,6 @@ use borrow.Author.Tests.{not-true, not-false}
 use Rattle.verify.proofs.Frees.{Listing, listing-start, listing-end, listing-no, listing-next}
 use Rattle.verify.proofs.free.claim_listed.Statement.{statement}
 use Rattle.verify.proofs.free.claim_listed.Tie as tie
-use Rattle.verify.proofs.free.claim_listed.Reads as reads
-use Rattle.verify.proofs.free.claim_listed.Lts as lts
-use Rattle.pages.proofs.claim.claim.Reads as claim-reads
-use Rattle.pages.proofs.read.get32.Reads as get32-reads
 
 abbrev Inv-loop : tie.InvT-loop
 Inv-loop image scratch₀ page count i₀ scratch i = Listing image scratch₀ scratch page count i
@@ -16,7 +12,7 @@ abbrev μ-loop : tie.MeasureT-loop
 μ-loop image scratch₀ page count i₀ scratch i = count - i
 
 loop-holds : tie.Need-loop-holds Inv-loop μ-loop
-loop-holds c = listing-start _ _ _ _
+loop-holds c = listing-start _ _ _ _ (c .before .before .pre .0)
 
 mul-get32 : tie.Need-mul-get32 Inv-loop μ-loop
 mul-get32 c = omega arith
@@ -28,7 +24,7 @@ get32-requires : tie.Need-get32-requires Inv-loop μ-loop
 get32-requires c κs = record { small = omega arith; low = omega arith; high = omega arith; fits = omega arith }
 
 claim-requires : tie.Need-claim-requires Inv-loop μ-loop
-claim-requires c κs = (omega arith, record { size = omega arith; most = omega arith })
+claim-requires c κs = omega arith
 
 same-length : tie.Need-same-length Inv-loop μ-loop
 same-length c = omega arith
@@ -37,7 +33,8 @@ returns : tie.Need-returns Inv-loop μ-loop
 returns c =
     let a = c .before .before .before in
     let g = a .before .before in
-    listing-no _ _ _ _ _ _ (g .before .before .loop .inv) (g .before .loop-test .taken) _ (g .get32 .ensures .is) _ _ (a .claim .ensures)
+    let v = g .before .before .loop .inv in
+    listing-no _ _ _ _ _ _ v (g .before .loop-test .taken) _ (g .get32 .ensures .is) _ _ (a .claim .ensures _ (v .lent))
     (not-true _ (c .if1 .taken))
 
 add-i : tie.Need-add-i Inv-loop μ-loop
@@ -50,7 +47,8 @@ loop-again : tie.Need-loop-again Inv-loop μ-loop
 loop-again c =
     let a = c .before .before .before in
     let g = a .before .before in
-    listing-next _ _ _ _ _ _ (g .before .before .loop .inv) (g .before .loop-test .taken) _ (g .get32 .ensures .is) _ _ (a .claim .ensures)
+    let v = g .before .before .loop .inv in
+    listing-next _ _ _ _ _ _ v (g .before .loop-test .taken) _ (g .get32 .ensures .is) _ _ (a .claim .ensures _ (v .lent))
     (not-false _ (c .if1 .left))
 
 same-length-2 : tie.Need-same-length-2 Inv-loop μ-loop

@@ -4,8 +4,11 @@ use native.Mathlib.Omega.{arith}
 use mathlib.Core.Path.{_≡_, _∙_}
 use borrow.Author.Needs.{needs}
 use lib.ListN.{length}
-use Rattle.walks.specs.Found.{Open, zeros}
-use Rattle.walks.proofs.Founds.{zeros-most}
+use Rattle.walks.specs.Found.{Open, unclaimed}
+use Rattle.blockfile.specs.Bytes.{pg, be32}
+use Rattle.heads.specs.Claims.{Lent}
+use Rattle.heads.proofs.Claims.{link-read}
+use Rattle.walks.proofs.Founds.{found-lent, unclaimed-most}
 use Rattle.verify.proofs.Frees.{Freeing, freeing-start, freeing-end, freeing-no, freeing-next, block-turn}
 use Rattle.verify.proofs.free.verify_free.Statement.{statement}
 use Rattle.verify.proofs.free.verify_free.Tie as tie
@@ -14,14 +17,14 @@ abbrev Inv-loop : tie.InvT-loop
 Inv-loop image scratch₀ start page₀ free₀ scratch page free = Freeing image scratch₀ start scratch page free
 
 abbrev μ-loop : tie.MeasureT-loop
-μ-loop image scratch₀ start page₀ free₀ scratch page free = zeros scratch
+μ-loop image scratch₀ start page₀ free₀ scratch page free = unclaimed scratch
 
 -- a turn that goes on: the block is a page, and its pages are used up
 turn : (c : tie.After-known-told Inv-loop μ-loop)
     → let took = c .before .before .before .before .before in
     let k = c .before .n .given .0 .0 in
     Open (took .before .before .before .loop .scratch) (took .before .before .before .loop .page)
-    × (zeros (took .before .before .before .loop .scratch) ≡ k + zeros (took .claim-block .last .1 .0))
+    × (unclaimed (took .before .before .before .loop .scratch) ≡ k + unclaimed (took .claim-block .last .1 .0))
     × (1 ≤ k)
     × (length (took .claim-block .last .1 .0) ≡ length (took .before .before .before .loop .scratch))
 turn c =
@@ -34,12 +37,33 @@ returns c =
     let in-loop = took .before .before in
     freeing-no _ _ _ _ _ _ (in-loop .before .loop .inv) (in-loop .loop-test .taken) _ _ (took .claim-block .ensures) (c .enum-told .given .1)
 
+-- the scratch after a block
+lent : (c : tie.After-known-told Inv-loop μ-loop)
+    → let took = c .before .before .before .before .before in
+    Lent (took .before .before .before .before .before .before .args .image .now) (took .claim-block .last .1 .0)
+lent c =
+    let took = c .before .before .before .before .before in
+    found-lent (took .before .before .before .loop .inv .lent) (took .claim-block .ensures .sound _ (c .before .n .given .1) .found)
+
+link-requires : tie.Need-link-requires Inv-loop μ-loop
+link-requires c κs =
+    let t = turn (c .before) in
+    record { small = lent (c .before) .most; low = t .0 .low; high = omega (arith, t .0 .high, t .3); fits = omega arith }
+
+-- the page of the next block
+next : (c : tie.After-link Inv-loop μ-loop)
+    → let at = c .before .before .before .before .before .before .before .before .before .before in
+    c .link .result ≡ be32 (pg (at .before .before .before .args .image .now) (at .loop .page)) 8
+next c =
+    let t = turn (c .before .before) in
+    link-read (lent (c .before .before)) _ (t .0 .low) (omega (arith, t .0 .high, t .3)) 8 (omega arith) (omega arith) (c .link .ensures) .is
+
 loop-again : tie.Need-loop-again Inv-loop μ-loop
 loop-again c =
-    let took = c .before .before .before .before .before .before in
+    let took = c .before .before .before .before .before .before .before in
     let in-loop = took .before .before in
     freeing-next _ _ _ _ _ _ (in-loop .before .loop .inv) (in-loop .loop-test .taken) _ _ (took .claim-block .ensures) _ _
-    (c .before .before .n .given .1) (c .get32 .ensures .is)
+    (c .before .before .before .n .given .1) (next c)
 
 pub verify-free-spec : {M : Type 1} → statement M
 verify-free-spec =
@@ -47,15 +71,15 @@ verify-free-spec =
     (tie.spec
     Inv-loop
     μ-loop
-    (λ c. freeing-start _ _ _)
-    (λ c κs. record { size = omega arith; most = omega arith })
+    (λ c. freeing-start _ _ _ (c .before .before .pre))
+    (λ c κs. c .before .before .loop .inv .lent)
     (λ c. search needs)
     (λ c. search needs)
     (λ c. c .before .before .before .before .claim-block .kept .1 .0 ∙ c .before .before .before .before .before .before .before .loop .inv .long)
     returns
-    (λ c. omega (arith, turn c, zeros-most (c .before .before .before .before .before .before .before .before .before .before .before .args .scratch .now)))
-    (λ c κs. let t = turn c in record { small = omega arith; low = omega arith; high = omega arith; fits = omega arith })
-    (λ c. omega (arith, turn (c .before)))
+    (λ c. omega (arith, turn c, unclaimed-most (c .before .before .before .before .before .before .before .before .before .before .before .args .scratch .now)))
+    link-requires
+    (λ c. omega (arith, turn (c .before .before)))
     loop-again
     (λ c. omega arith)
     (λ c. freeing-end _ _ _ _ _ _ (c .before .loop .inv) (c .loop-test .left)))

@@ -7,7 +7,6 @@ use borrow.Author.Needs.{needs}
 use borrow.Author.Tests.{not-true, not-false}
 use lib.ListN.{getD}
 use Rattle.blockfile.specs.Layout.{Entry}
-use Rattle.pages.specs.Claims.{Lent}
 use Rattle.verify.specs.Tables.{NamesOn}
 use Rattle.verify.proofs.Named.{Naming, naming-start, naming-end, naming-lengths, naming-key, naming-past, naming-name, naming-unnamed, naming-value, naming-no, naming-next, table-fewer}
 use Rattle.verify.proofs.names.verify_named.Statement.{statement}
@@ -26,7 +25,7 @@ get16-requires c κs =
     record { small = h .small; low = h .inside .low; high = h .inside .high; fits = omega arith }
 
 loop-holds : tie.Need-loop-holds Inv-loop μ-loop
-loop-holds c es h = naming-start _ _ _ _ es h _ (c .get16 .ensures .is)
+loop-holds c es h = naming-start _ _ _ _ (c .before .before .before .pre .0) es h _ (c .get16 .ensures .is)
 
 -- what is to be found, for some entries of the span
 naming : (l : tie.In-loop Inv-loop μ-loop)
@@ -34,23 +33,18 @@ naming : (l : tie.In-loop Inv-loop μ-loop)
     Naming (start .args .image .now) (start .args .scratch .now) (start .pre .1 .0) (start .args .before) (l .before .loop .scratch) (l .before .loop .at) (l .before .loop .left) (l .before .loop .keys)
 naming l = let start = l .before .before .before .before .before in l .before .loop .inv (start .pre .1 .0) (start .pre .1 .1)
 
-lent : (l : tie.In-loop Inv-loop μ-loop) → Lent (l .before .before .before .before .before .args .image .now) (l .before .loop .scratch)
-lent l =
-    let p = l .before .before .before .before .before .pre .0 in
-    record { size = omega (arith, p .size, naming l .long); most = omega (arith, p .most, naming l .long) }
-
 bytes : (l : tie.In-loop Inv-loop μ-loop) (i : ℕ) → getD (l .before .before .before .before .before .args .image .now) i 0 < 256
 bytes l i = let b = l .before .before .before .before .shared-slice-known .given i in omega arith
 
 lengths-requires : tie.Need-lengths-requires Inv-loop μ-loop
 lengths-requires c κs = naming-lengths (naming c) (c .loop-test .taken)
 
-allowed-requires : tie.Need-allowed-requires Inv-loop μ-loop
-allowed-requires c κs =
+is-named-requires : tie.Need-is-named-requires Inv-loop μ-loop
+is-named-requires c κs =
     let l = c .before .before in
     let g = c .before .lengths .ensures in
     let n = naming-name (naming l) (l .loop-test .taken) _ g in
-    (n .0, n .1, omega (arith, g .keyBelow), omega (arith, g .valueBelow))
+    (n .0, n .1, omega (arith, g .keyBelow))
 
 same-length : tie.Need-same-length Inv-loop μ-loop
 same-length c = naming (c .before .before .before .before) .long
@@ -60,10 +54,10 @@ returns c es h =
     let a = c .before in
     let g = a .before .before in
     let l = g .before in
-    naming-unnamed (l .before .loop .inv es h) (l .loop-test .taken) _ (g .lengths .ensures) _ (a .allowed .ensures) (not-true _ (c .if1 .taken))
+    naming-unnamed (l .before .loop .inv es h) (l .loop-test .taken) _ (g .lengths .ensures) _ (a .is-named .ensures) (not-true _ (c .if1 .taken))
 
 -- the name passed the test
-passed : (c : tie.Else1 Inv-loop μ-loop) → c .before .allowed .result ≡ true
+passed : (c : tie.Else1 Inv-loop μ-loop) → c .before .is-named .result ≡ true
 passed c = not-false _ (c .if1 .left)
 
 place-after-requires : tie.Need-place-after-requires Inv-loop μ-loop
@@ -77,10 +71,10 @@ number-requires c κs =
     let e = c .before in
     let g = e .before .before .before in
     let l = g .before in
-    naming-value (naming l) (l .loop-test .taken) _ (g .lengths .ensures) _ (e .before .allowed .ensures) (passed e) _ (c .place-after .ensures)
+    naming-value (naming l) (l .loop-test .taken) _ (g .lengths .ensures) _ (e .before .is-named .ensures) (passed e) _ (c .place-after .ensures)
 
 verify-table-requires : tie.Need-verify-table-requires Inv-loop μ-loop
-verify-table-requires c κs = lent (c .before .before .before .before .before .before .before)
+verify-table-requires c κs = naming (c .before .before .before .before .before .before .before) .lent
 
 enum-known-n : tie.Need-enum-known-n Inv-loop μ-loop
 enum-known-n c = search needs
@@ -102,7 +96,7 @@ returns-2 c es h =
     let e = root .before .before in
     let g = e .before .before .before in
     let l = g .before in
-    naming-no (l .before .loop .inv es h) (l .loop-test .taken) _ (g .lengths .ensures) _ (e .before .allowed .ensures) (passed e) _ (root .before .place-after .ensures) (lent l) (bytes l)
+    naming-no (l .before .loop .inv es h) (l .loop-test .taken) _ (g .lengths .ensures) _ (e .before .is-named .ensures) (passed e) _ (root .before .place-after .ensures) (bytes l)
     _ (root .number .ensures) _ _ (took .verify-table .ensures) (c .enum-told .given .1)
 
 add-keys : tie.Need-add-keys Inv-loop μ-loop
@@ -134,7 +128,7 @@ loop-again c es h =
     let e = root .before .before in
     let g = e .before .before .before in
     let l = g .before in
-    naming-next (l .before .loop .inv es h) (l .loop-test .taken) _ (g .lengths .ensures) _ (e .before .allowed .ensures) (passed e) _ (root .before .place-after .ensures) (lent l) (bytes l)
+    naming-next (l .before .loop .inv es h) (l .loop-test .taken) _ (g .lengths .ensures) _ (e .before .is-named .ensures) (passed e) _ (root .before .place-after .ensures) (bytes l)
     _ (root .number .ensures) _ _ (took .verify-table .ensures) _ (c .before .before .before .n .given .1) _ (c .place-after2 .ensures)
 
 same-length-3 : tie.Need-same-length-3 Inv-loop μ-loop
@@ -152,7 +146,7 @@ verify-named-spec =
     get16-requires
     loop-holds
     lengths-requires
-    allowed-requires
+    is-named-requires
     same-length
     returns
     place-after-requires

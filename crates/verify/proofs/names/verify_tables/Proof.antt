@@ -1,8 +1,8 @@
 use native.Mathlib.Omega.{arith}
-use mathlib.Core.Path.{_≡_, _∙_}
+use mathlib.Core.Path.{_∙_}
 use borrow.Author.Needs.{needs}
 use Rattle.blockfile.specs.Layout.{Table}
-use Rattle.walks.proofs.Founds.{zeros-most}
+use Rattle.walks.proofs.Founds.{unclaimed-most}
 use Rattle.verify.specs.Tables.{MetaOn}
 use Rattle.verify.proofs.Named.{Tabling, meta-inside, tabling-start, tabling-end, tabling-names, tabling-no, tabling-next}
 use Rattle.verify.proofs.names.verify_tables.Statement.{statement}
@@ -28,7 +28,7 @@ get32-requires-2 c κs =
     record { small = m .1 .small; low = omega arith; high = i .high; fits = omega arith }
 
 loop-holds : tie.Need-loop-holds Inv-loop μ-loop
-loop-holds c meta h = tabling-start _ _ meta h _ _ (c .before .get32 .ensures .is) (c .get322 .ensures .is)
+loop-holds c meta h = tabling-start _ _ meta h (c .before .before .before .before .pre .0) _ _ (c .before .get32 .ensures .is) (c .get322 .ensures .is)
 
 -- what is to be found, for some metaindex
 tabling : (l : tie.In-loop Inv-loop μ-loop)
@@ -41,9 +41,9 @@ verify-named-requires c κs =
     let l = c .before in
     let p = l .before .before .before .before .before .before .pre .0 in
     let t = tabling l in (
-      record { size = omega (arith, p .size, t .long); most = omega (arith, p .most, t .long) },
+      t .lent,
       tabling-names t (l .loop-test .taken),
-      omega (arith, t .few, p .most, zeros-most (l .before .before .before .before .before .before .args .scratch .now)),
+      omega (arith, t .few, p .most, unclaimed-most (l .before .before .before .before .before .before .args .scratch .now)),
     )
 
 enum-known-n : tie.Need-enum-known-n Inv-loop μ-loop

@@ -1,19 +1,15 @@
+-- `verify_columns` meets its contract: the spans, then the towers.
 use native.Mathlib.Omega.{arith}
 use borrow.Author.Needs.{needs}
 use Rattle.verify.proofs.Tables.{columns-no-spans, spans-there, columns-no-towers, columns-done}
 use Rattle.verify.proofs.table.verify_columns.Statement.{statement}
 use Rattle.verify.proofs.table.verify_columns.Tie as tie
-use Rattle.verify.proofs.table.verify_columns.Reads as reads
-use Rattle.verify.proofs.table.verify_columns.Lts as lts
-use Rattle.pages.proofs.read.get32.Reads as get32-reads
-use Rattle.spans.proofs.verify_spans.Reads as verify-spans-reads
-use Rattle.towers.proofs.verify_towers.Reads as verify-towers-reads
 
 get32-requires : tie.Need-get32-requires
 get32-requires c κs = search needs
 
 verify-spans-requires : tie.Need-verify-spans-requires
-verify-spans-requires c κs = (record { size = omega arith; most = omega arith }, omega arith)
+verify-spans-requires c κs = (c .before .before .before .before .pre .0, omega arith)
 
 enum-known-keys : tie.Need-enum-known-keys
 enum-known-keys c = search needs

@@ -1,0 +1,221 @@
+-- Heads copied, links read from them, what a claim answers, and what a full scratch says.
+use Prim.Native.Nat.{ℕ, zero, suc, _+_, _*_, _-_, _/_, _%_, _≤_, _<_}
+use mathlib.Core.Bool.{Bool, true, false, _&&_, not, cond}
+use mathlib.Core.List.{List, []}
+use mathlib.Core.Logic.{by-cases}
+use mathlib.Core.Path.{_≡_, refl, ap, sym, _∙_, subst}
+use native.Mathlib.Decide.{ℕ-discrete}
+use native.Mathlib.Nat.{add-assoc, add-zero}
+use native.Mathlib.Omega.{arith}
+use lib.ListN.{length, drop, getD, set, length-drop, length-set}
+use lib.Seq.{getD-drop, getD-set-same, getD-set-other}
+use lib.Dec.{T, eqb}
+use borrow.Author.Tests.{eq-eqb, ne-eqb, le-leb, lt-leb, eqb-true, eqb-false}
+use Rattle.blockfile.specs.Bytes.{pg, be32}
+use Rattle.blockfile.specs.Marks.{marks}
+use Rattle.pages.specs.Places.{Number}
+use Rattle.laws.proofs.Numbers.{be32-agree}
+use Rattle.laws.proofs.Pages.{pg-at, length-pg}
+use Rattle.heads.specs.Begins.{begins}
+use Rattle.heads.specs.Claims.{Room, Copied, opened, Lent, Headed, HeadCopied, linkAt, Linking, Claimed, claimable, claimed, fullTo, full}
+use Rattle.heads.proofs.Marks.{begins-agree, begins-other, mark-some, mark-most, mark-first}
+
+-- ---- Heads copied
+
+opened-some : (b : ℕ) → opened b ≡ 0 → ⊥
+opened-some b e = go (eqb b 0) refl e
+  where
+    go : (t : Bool) → eqb b 0 ≡ t → cond t 255 b ≡ 0 → ⊥
+    go true q z = omega arith
+    go false q z = eqb-false b 0 q z
+
+pub copied-none : (src : List ℕ) (a : ℕ) (dst : List ℕ) (b : ℕ) → Copied src a dst b 0 dst
+copied-none src a dst b = record { long = refl; done = λ i h. absurd (omega arith); kept = λ i h. refl }
+
+pub copied-more : {src : List ℕ} {a : ℕ} {dst : List ℕ} {b n : ℕ} {out : List ℕ} → Copied src a dst b n out → b + n < length dst → Copied src a dst b (n + 1) (set out (b + n) (getD src (a + n) 0))
+copied-more {src} {a} {dst} {b} {n} {out} c h =
+    let v : ℕ = getD src (a + n) 0 in
+    record {
+      long = length-set out (b + n) v ∙ c .long;
+      done = λ i l. by-cases (ℕ-discrete i n)
+          (λ q. rw q (getD-set-same out (b + n) v 0 (omega (arith, c .long))))
+          (λ q. getD-set-other out (b + n) (b + i) v 0 (omega arith) ∙ c .done i (omega arith));
+      kept = λ i l. getD-set-other out (b + n) i v 0 (omega arith) ∙ c .kept i l;
+    }
+
+pub copied-first : {src : List ℕ} {a : ℕ} {dst : List ℕ} {b n m : ℕ} {out : List ℕ} → Copied src a dst b n out → m ≤ n → Copied src a dst b m out
+copied-first c h = record { long = c .long; done = λ i l. c .done i (omega arith); kept = c .kept }
+
+-- by way of a list of its own
+pub copied-through : {src : List ℕ} {a : ℕ} {own head dst : List ℕ} {b n : ℕ} {out : List ℕ} → Copied src a own 0 n head → Copied head 0 dst b n out → Copied src a dst b n out
+copied-through c d = record { long = d .long; done = λ i l. d .done i l ∙ c .done i l; kept = d .kept }
+
+module _ {img scr : List ℕ} (j : ℕ) {out : List ℕ} (c : Copied img (1024 * j) scr (16 * j) 16 out) (inside : 16 * j < length scr) where
+  first-byte : getD out (16 * j) 0 ≡ getD img (1024 * j) 0
+  first-byte = rw (add-zero (16 * j), add-zero (1024 * j)) at (c .done 0 (omega arith))
+
+  pub copied-open : (getD out (16 * j) 0 ≡ 0 → ⊥) → HeadCopied img scr j out
+  copied-open n =
+      record {
+        long = c .long;
+        first = first-byte ∙ sym (rw (ne-eqb (getD img (1024 * j) 0) 0 (λ e. n (first-byte ∙ e))));
+        others = λ i l h. c .done i h;
+        kept = c .kept;
+      }
+
+  pub copied-zero : getD out (16 * j) 0 ≡ 0 → HeadCopied img scr j (set out (16 * j) 255)
+  copied-zero z =
+      record {
+        long = length-set out (16 * j) 255 ∙ c .long;
+        first = getD-set-same out (16 * j) 255 0 (omega (arith, c .long)) ∙ sym (rw (eq-eqb (getD img (1024 * j) 0) 0 (sym first-byte ∙ z)));
+        others = λ i l h. getD-set-other out (16 * j) (16 * j + i) 255 0 (omega arith) ∙ c .done i h;
+        kept = λ i l. getD-set-other out (16 * j) i 255 0 (omega arith) ∙ c .kept i l;
+      }
+
+-- a loop has copied the heads of the first n pages
+pub record Heading (img scr₀ scr : List ℕ) (n : ℕ) : Type 0 where
+  pub long : length scr ≡ length scr₀
+  pub first : (j : ℕ) → j < n → getD scr (16 * j) 0 ≡ opened (getD img (1024 * j) 0)
+  pub others : (j i : ℕ) → j < n → 1 ≤ i → i < 16 → getD scr (16 * j + i) 0 ≡ getD img (1024 * j + i) 0
+
+pub heading-none : (img scr : List ℕ) → Heading img scr scr 0
+heading-none img scr = record { long = refl; first = λ j h. absurd (omega arith); others = λ j i h. absurd (omega arith) }
+
+module _ {img scr₀ scr : List ℕ} {n : ℕ} (w : Heading img scr₀ scr n) where
+  pub heading-more : {out : List ℕ} → HeadCopied img scr n out → Heading img scr₀ out (n + 1)
+  heading-more {out} c =
+      record {
+        long = c .long ∙ w .long;
+        first = λ j h. by-cases (ℕ-discrete j n) (λ e. rw e (c .first)) (λ e. c .kept (16 * j) (omega arith) ∙ w .first j (omega arith));
+        others = λ j i h l m. by-cases (ℕ-discrete j n) (λ e. rw e (c .others i l m)) (λ e. c .kept (16 * j + i) (omega arith) ∙ w .others j i (omega arith) l m);
+      }
+
+  pub heading-room : Room img scr₀ → Room img scr
+  heading-room r = record { size = omega (arith, r .size, w .long); whole = ap (λ (x : ℕ). x % 16) (w .long) ∙ r .whole; most = omega (arith, r .most, w .long) }
+
+  pub heading-all : Room img scr₀ → length scr₀ / 16 ≤ n → Headed img scr
+  heading-all r h =
+      let q : Room img scr = heading-room r in
+      record {
+        lent = record {
+          size = q .size;
+          whole = q .whole;
+          most = q .most;
+          first = λ j l u. w .first j (omega (arith, w .long));
+          others = λ j i l. w .others j i (omega (arith, w .long));
+        };
+        unclaimed = λ j l e. opened-some (getD img (1024 * j) 0) (sym (w .first j (omega (arith, w .long))) ∙ e);
+      }
+
+-- ---- Links and marks read from heads
+
+pub linking : {img scr : List ℕ} → Lent img scr → {n : ℕ} → 1 ≤ n → 1024 * n ≤ length img → {o : ℕ} → o + 4 ≤ 16 → Linking scr n o
+linking lent low high fits = record { small = lent .most; low = low; high = omega (arith, lent .size); fits = fits }
+
+module _ {img scr : List ℕ} (lent : Lent img scr) (n : ℕ) (low : 1 ≤ n) (high : 16 * n ≤ length scr) where
+  others-at : (i : ℕ) → 1 ≤ i → i < 16 → getD scr (16 * (n - 1) + i) 0 ≡ getD (pg img n) i 0
+  others-at i a b = lent .others (n - 1) i (omega arith) a b ∙ sym (pg-at img n i low (omega arith))
+
+  pub link-is : (o : ℕ) → 1 ≤ o → o + 4 ≤ 16 → linkAt scr n o ≡ be32 (pg img n) o
+  link-is o a b = be32-agree scr (16 * (n - 1) + o) (pg img n) o (λ k h. rw (add-assoc (16 * (n - 1)) o k) (others-at (o + k) (omega arith) (omega arith)))
+
+  pub link-read : (o : ℕ) → 1 ≤ o → o + 4 ≤ 16 → {top r : ℕ} → Number (linkAt scr n o) top r → Number (be32 (pg img n) o) top r
+  link-read o a b x = record { is = x .is ∙ link-is o a b; below = x .below }
+
+  module _ (k : ℕ) (h : k < 7) where
+    head-agrees : getD scr (16 * (n - 1)) 0 ≡ getD img (1024 * (n - 1)) 0 → begins (getD marks k []) (drop (16 * (n - 1)) scr) ≡ begins (getD marks k []) (pg img n)
+    head-agrees e =
+        begins-agree (getD marks k []) (drop (16 * (n - 1)) scr) (pg img n)
+        (omega (arith, mark-most k h, length-drop (16 * (n - 1)) scr)) (omega (arith, mark-most k h, length-pg img n low (omega (arith, lent .size))))
+        (λ i l. getD-drop (16 * (n - 1)) scr i 0 ∙ by-cases (ℕ-discrete i 0)
+        (λ z. rw (z, add-zero (16 * (n - 1))) (e ∙ sym (pg-at img n 0 low (omega arith) ∙ ap (λ (a : ℕ). getD img a 0) (add-zero (1024 * (n - 1))))))
+        (λ z. others-at i (omega arith) (omega (arith, mark-most k h))))
+
+    other-first : (b : ℕ) → b ≡ getD scr (16 * (n - 1)) 0 → (b ≡ getD (getD marks k []) 0 0 → ⊥) → begins (getD marks k []) (drop (16 * (n - 1)) scr) ≡ false
+    other-first b e d =
+        begins-other (getD marks k []) (drop (16 * (n - 1)) scr) (omega (arith, mark-some k h))
+        (λ q. d (e ∙ sym (getD-drop (16 * (n - 1)) scr 0 0 ∙ ap (λ (a : ℕ). getD scr a 0) (add-zero (16 * (n - 1)))) ∙ q))
+
+    other-page : getD img (1024 * (n - 1)) 0 ≡ 0 → begins (getD marks k []) (pg img n) ≡ false
+    other-page z =
+        begins-other (getD marks k []) (pg img n) (omega (arith, mark-some k h))
+        (λ q. omega (arith, mark-first k h .0, sym q ∙ pg-at img n 0 low (omega arith) ∙ ap (λ (a : ℕ). getD img a 0) (add-zero (1024 * (n - 1))) ∙ z))
+
+    -- THE HEAD BEGINS WITH A MARK EXACTLY IF THE PAGE DOES AND IS NOT CLAIMED
+    pub head-begins : begins (getD marks k []) (drop (16 * (n - 1)) scr) ≡ not (eqb (getD scr (16 * (n - 1)) 0) 0) && begins (getD marks k []) (pg img n)
+    head-begins =
+        by-cases (ℕ-discrete (getD scr (16 * (n - 1)) 0) 0)
+        (λ z. other-first 0 (sym z) (λ q. omega (arith, mark-first k h .0)) ∙ sym (rw (eq-eqb (getD scr (16 * (n - 1)) 0) 0 z)))
+        (λ z.
+        let f : getD scr (16 * (n - 1)) 0 ≡ opened (getD img (1024 * (n - 1)) 0) = lent .first (n - 1) (omega arith) z in
+        by-cases (ℕ-discrete (getD img (1024 * (n - 1)) 0) 0)
+        (λ y. let is : getD scr (16 * (n - 1)) 0 ≡ 255 = f ∙ rw (eq-eqb (getD img (1024 * (n - 1)) 0) 0 y) in
+        other-first 255 (sym is) (λ q. omega (arith, mark-first k h .1)) ∙ sym (rw (ne-eqb (getD scr (16 * (n - 1)) 0) 0 z) (other-page y)))
+        (λ y. head-agrees (f ∙ rw (ne-eqb (getD img (1024 * (n - 1)) 0) 0 y)) ∙ sym (rw (ne-eqb (getD scr (16 * (n - 1)) 0) 0 z))))
+
+-- ---- Claims
+
+module _ (img scr : List ℕ) (n k : ℕ) where
+  pub claim-zero : n ≡ 0 → Claimed img scr n k false scr
+  unfolding claimable
+  claim-zero e = record { answer = rw e; left = refl }
+
+  module _ (low : 1 ≤ n) where
+    pub claim-past : length scr < 16 * n → Claimed img scr n k false scr
+    unfolding claimable
+    claim-past l = record { answer = simp (le-leb 1 n low, lt-leb (16 * n) (length scr) l); left = refl }
+
+    -- it is left to the head
+    module _ (high : 16 * n ≤ length scr) (lent : Lent img scr) (kind : k < 7) where
+      pub claim-head : (r : Bool) → r ≡ begins (getD marks k []) (drop (16 * (n - 1)) scr) → Claimed img scr n k r (cond r (claimed scr n) scr)
+      unfolding claimable
+      claim-head r e = record { answer = e ∙ head-begins lent n low high k kind ∙ sym (simp (le-leb 1 n low, le-leb (16 * n) (length scr) high)); left = refl }
+
+-- a claim changes the first byte of a head
+pub lent-claimed : {img scr : List ℕ} (n : ℕ) → Lent img scr → Lent img (claimed scr n)
+unfolding claimed
+lent-claimed {img} {scr} n lent =
+    let long : length (set scr (16 * (n - 1)) 0) ≡ length scr = length-set scr (16 * (n - 1)) 0 in
+    record {
+      size = omega (arith, lent .size, long);
+      whole = ap (λ (x : ℕ). x % 16) long ∙ lent .whole;
+      most = omega (arith, lent .most, long);
+      first = λ j l u. by-cases (ℕ-discrete j (n - 1))
+          (λ e. absurd (u (rw e (getD-set-same scr (16 * (n - 1)) 0 0 (omega (arith, long, l, e))))))
+          (λ e. let same = getD-set-other scr (16 * (n - 1)) (16 * j) 0 0 (omega arith) in same ∙ lent .first j (omega (arith, long)) (λ z. u (same ∙ z)));
+      others = λ j i l a b. getD-set-other scr (16 * (n - 1)) (16 * j + i) 0 0 (omega arith) ∙ lent .others j i (omega (arith, long)) a b;
+    }
+
+-- ---- A full scratch: the steps of a loop, and both directions
+
+-- of the first i pages, all are claimed; the loop's turn
+module _ (s : List ℕ) (i : ℕ) (all : Bool) (f : all ≡ fullTo s i) (t : Bool) where
+  pub full-not : (getD s (16 * i) 0 ≡ 0 → ⊥) → t ≡ false → t ≡ fullTo s (suc i)
+  unfolding fullTo
+  full-not n q = q ∙ sym (rw (ne-eqb (getD s (16 * i) 0) 0 n))
+
+  pub full-more : getD s (16 * i) 0 ≡ 0 → t ≡ all → t ≡ fullTo s (suc i)
+  unfolding fullTo
+  full-more e q = q ∙ f ∙ sym (rw (eq-eqb (getD s (16 * i) 0) 0 e))
+
+full-below : (s : List ℕ) (p : ℕ) → fullTo s p ≡ true → (i : ℕ) → i < p → getD s (16 * i) 0 ≡ 0
+unfolding fullTo
+full-below s zero f i l = absurd (omega arith)
+full-below s (suc p) f i l = go (eqb (getD s (16 * p) 0) 0) refl f (full-below s p)
+  where
+    go : (t : Bool) → eqb (getD s (16 * p) 0) 0 ≡ t → t && fullTo s p ≡ true → (fullTo s p ≡ true → (i : ℕ) → i < p → getD s (16 * i) 0 ≡ 0) → getD s (16 * i) 0 ≡ 0
+    go true q e ih = by-cases (ℕ-discrete i p) (λ z. rw z (eqb-true (getD s (16 * p) 0) 0 q)) (λ z. ih e i (omega arith))
+    go false q e ih = absurd (subst T (sym e) tt)
+
+pub full-at : (s : List ℕ) → full s ≡ true → (i : ℕ) → 16 * i + 16 ≤ length s → getD s (16 * i) 0 ≡ 0
+unfolding full
+full-at s f i l = full-below s (length s / 16) f i (omega arith)
+
+full-to : (s : List ℕ) (p : ℕ) → ((i : ℕ) → i < p → getD s (16 * i) 0 ≡ 0) → fullTo s p ≡ true
+unfolding fullTo
+full-to s zero h = refl
+full-to s (suc p) h = rw (eq-eqb (getD s (16 * p) 0) 0 (h p (omega arith))) (full-to s p (λ i l. h i (omega arith)))
+
+pub full-of : (s : List ℕ) → ((i : ℕ) → 16 * i + 16 ≤ length s → getD s (16 * i) 0 ≡ 0) → full s ≡ true
+unfolding full
+full-of s h = full-to s (length s / 16) (λ i l. h i (omega arith))
