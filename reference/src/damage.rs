@@ -830,11 +830,15 @@ impl Work<'_> {
         }
     }
 
+    /// A page of any bytes, or of zeros, at the end.
     fn one_more_page(&mut self) -> Option<()> {
         if self.layout.pages as usize == MAX_PAGES {
             return None;
         }
-        let more = self.random.bytes(PAGE);
+        let more = match self.random.below(2) {
+            0 => vec![0; PAGE],
+            _ => self.random.bytes(PAGE),
+        };
         self.image.extend(more);
         let length = self.image.len() as u64;
         let at = superblock::FILE_LENGTH;

@@ -2,8 +2,8 @@
 //!
 //! It does the same job as the verified library with the same means, no heap, no unsafe code and
 //! a few kilobytes of stack, so that the library's time can be set beside that of plain Rust. The
-//! first P bytes of the scratch are the claims of the pages while the image is verified; put,
-//! remove and create then stage the pages of a span in the scratch.
+//! scratch has the heads of the pages while the image is verified; put, remove and create then stage
+//! the pages of a span in it.
 
 #![forbid(unsafe_code)]
 
@@ -129,10 +129,8 @@ fn open<'a>(image: &'a [u8], scratch: &mut [u8]) -> Result<(&'a [Page], Counts),
     let pages = page::pages(image).ok_or(Refusal::ImageLength)?;
     let scratch = scratch.get_mut(..image.len());
     let scratch = scratch.ok_or(Refusal::ScratchShort)?;
+    let counts = verify::verify(pages, page::heads(scratch, pages.len()));
     scratch.fill(0);
-    let claims = &mut scratch[..pages.len()];
-    let counts = verify::verify(pages, claims);
-    claims.fill(0);
     let counts = counts.ok_or(Refusal::NotWellFormed)?;
     Ok((pages, counts))
 }

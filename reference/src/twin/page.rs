@@ -5,6 +5,12 @@ use crate::page::{Kind, MAX_PAGES, MIN_PAGES, PAGE};
 /// The bytes of one page.
 pub type Page = [u8; PAGE];
 
+/// The first bytes of a page: its mark, and the pages that it links.
+pub type Head = [u8; HEAD];
+
+/// How many these are.
+pub const HEAD: usize = 16;
+
 /// The image as pages, if its length is that of an image.
 pub fn pages(image: &[u8]) -> Option<&[Page]> {
     let (pages, rest) = image.as_chunks();
@@ -14,6 +20,11 @@ pub fn pages(image: &[u8]) -> Option<&[Page]> {
 /// The pages of an image that is to be written.
 pub fn pages_mut(image: &mut [u8]) -> &mut [Page] {
     image.as_chunks_mut().0
+}
+
+/// The heads of so many pages, in the scratch.
+pub fn heads(scratch: &mut [u8], pages: usize) -> &mut [Head] {
+    &mut scratch.as_chunks_mut().0[..pages]
 }
 
 fn is_count(pages: usize) -> bool {
@@ -34,14 +45,14 @@ pub fn page_mut(pages: &mut [Page], number: u32) -> &mut Page {
 
 /// The two-byte number at this offset.
 #[inline]
-pub fn u16_at(page: &Page, offset: usize) -> u16 {
+pub fn u16_at(page: &[u8], offset: usize) -> u16 {
     let bytes = &page[offset..offset + 2];
     u16::from_be_bytes([bytes[0], bytes[1]])
 }
 
 /// The four-byte number at this offset.
 #[inline]
-pub fn u32_at(page: &Page, offset: usize) -> u32 {
+pub fn u32_at(page: &[u8], offset: usize) -> u32 {
     let bytes = &page[offset..offset + 4];
     u32::from_be_bytes([bytes[0], bytes[1], bytes[2], bytes[3]])
 }
@@ -60,7 +71,7 @@ pub fn set_u32(page: &mut Page, offset: usize, number: u32) {
 
 /// Whether the page bears the mark of this kind.
 #[inline]
-pub fn bears(page: &Page, kind: Kind) -> bool {
+pub fn bears(page: &[u8], kind: Kind) -> bool {
     page.starts_with(kind.mark())
 }
 

@@ -1,10 +1,12 @@
 //! Is the image well-formed? One pass that claims every page it meets.
 //!
-//! A page is claimed once, in a byte of the scratch, and nothing but a tower's span is read
-//! before its page is claimed: so the pass ends on any bytes, in time linear in the image.
+//! The heads of the pages, with their marks and links, are first copied to the scratch, in the order
+//! of the pages: so links are then followed in memory that lies close together. A page is claimed
+//! once, in its head, and of its other bytes nothing is read before: so the pass ends on any bytes,
+//! in time linear in the image.
 
 use super::entry::{self, Entries, Key, Place};
-use super::page::{bears, link, page, u16_at, u32_at, Page};
+use super::page::{bears, page, u16_at, u32_at, Head, Page, HEAD};
 use crate::page::{
     block, listed_number, skip_list, span, superblock, tower, Kind, MAX_NUMBERS, METAINDEX, PAGE,
     SUPERBLOCK,
@@ -18,11 +20,14 @@ pub struct Counts {
     pub free: u64,
 }
 
-/// The counts of a well-formed image. `claims` has a byte for each page, all zero.
-pub fn verify(pages: &[Page], claims: &mut [u8]) -> Option<Counts> {
+/// The counts of a well-formed image. `heads` is lent, one for each page, and left in any state.
+pub fn verify(pages: &[Page], heads: &mut [Head]) -> Option<Counts> {
+    for (head, page) in heads.iter_mut().zip(pages) {
+        head.copy_from_slice(&page[..HEAD]);
+    }
     let mut walk = Walk {
         pages,
-        claims,
+        heads,
         claimed: 0,
     };
     let first_block = walk.superblock()?;
@@ -56,7 +61,7 @@ fn legal_span_size(size: u16) -> bool {
 
 struct Walk<'a> {
     pages: &'a [Page],
-    claims: &'a mut [u8],
+    heads: &'a mut [Head],
     claimed: usize,
 }
 
@@ -69,21 +74,22 @@ struct Levels {
 }
 
 impl<'a> Walk<'a> {
-    /// Claims a page that has no owner yet and bears the mark of the kind.
+    /// Claims a page that has no owner yet and bears the mark of the kind; gives its head. No mark
+    /// begins with 0, so a claimed page bears none.
     #[inline]
-    fn claim(&mut self, number: u32, kind: Kind) -> Option<&'a Page> {
-        let place = (number as usize).wrapping_sub(1);
-        let claim = self.claims.get_mut(place)?;
-        holds(*claim == 0)?;
-        *claim = 1;
+    fn claim(&mut self, number: u32, kind: Kind) -> Option<Head> {
+        let head = self.heads.get_mut((number as usize).wrapping_sub(1))?;
+        holds(bears(head, kind))?;
+        let fields = *head;
+        head[0] = 0;
         self.claimed += 1;
-        let page = &self.pages[place];
-        bears(page, kind).then_some(page)
+        Some(fields)
     }
 
     /// The superblock's fields; gives the first free-list page.
     fn superblock(&mut self) -> Option<u32> {
-        let page = self.claim(SUPERBLOCK, Kind::Superblock)?;
+        self.claim(SUPERBLOCK, Kind::Superblock)?;
+        let page = page(self.pages, SUPERBLOCK);
         let high = u64::from(u32_at(page, superblock::FILE_LENGTH));
         let low = u64::from(u32_at(page, superblock::FILE_LENGTH + 4));
         let length = (PAGE * self.pages.len()) as u64;
@@ -100,13 +106,14 @@ impl<'a> Walk<'a> {
         let before = self.claimed;
         let mut number = first;
         while number != 0 {
-            let page = self.claim(number, Kind::Block)?;
-            let count = u32_at(page, block::COUNT) as usize;
+            let head = self.claim(number, Kind::Block)?;
+            let count = u32_at(&head, block::COUNT) as usize;
             holds(count <= MAX_NUMBERS)?;
+            let page = page(self.pages, number);
             for place in 0..count {
                 self.claim(u32_at(page, listed_number(place)), Kind::Free)?;
             }
-            number = u32_at(page, block::NEXT);
+            number = u32_at(&head, block::NEXT);
         }
         Some((self.claimed - before) as u64)
     }
@@ -131,7 +138,8 @@ impl<'a> Walk<'a> {
 
     /// A table, or the metaindex, from its skip-list page; gives its keys.
     fn table(&mut self, root: u32) -> Option<u32> {
-        let list = self.claim(root, Kind::SkipList)?;
+        self.claim(root, Kind::SkipList)?;
+        let list = page(self.pages, root);
         let span_size = u16_at(list, skip_list::SPAN_SIZE);
         holds(legal_span_size(span_size))?;
         let first = u32_at(list, skip_list::FIRST_SPAN);
@@ -140,8 +148,8 @@ impl<'a> Walk<'a> {
         let mut last = Key::EMPTY;
         let (mut previous, mut number) = (0, first);
         loop {
-            let page = self.claim(number, Kind::Span)?;
-            holds(u32_at(page, span::PREVIOUS) == previous)?;
+            let head = self.claim(number, Kind::Span)?;
+            holds(u32_at(&head, span::PREVIOUS) == previous)?;
             let size = self.span(number, span_size, &mut last)?;
             if spans > 0 {
                 holds(size > 0)?;
@@ -149,7 +157,7 @@ impl<'a> Walk<'a> {
             }
             keys += u32::from(size);
             spans += 1;
-            (previous, number) = (number, u32_at(page, span::NEXT));
+            (previous, number) = (number, u32_at(&head, span::NEXT));
             if number == 0 {
                 break;
             }
@@ -179,7 +187,7 @@ impl<'a> Walk<'a> {
             (before, at) = (key, after);
         }
         *last = before;
-        holds(link(page(pages, at.page)) == 0)?;
+        holds(self.link(at.page) == 0)?;
         Some(size)
     }
 
@@ -194,21 +202,27 @@ impl<'a> Walk<'a> {
     /// Claims the continuation page after one of a span's pages.
     #[inline]
     fn continuation(&mut self, from: u32) -> Option<u32> {
-        let number = link(page(self.pages, from));
+        let number = self.link(from);
         self.claim(number, Kind::Continuation)?;
         Some(number)
     }
 
+    /// The continuation page after a page that is claimed.
+    #[inline]
+    fn link(&self, number: u32) -> u32 {
+        u32_at(&self.heads[number as usize - 1], span::CONTINUATION)
+    }
+
     /// The head of a table with this first span.
     fn head(&mut self, number: u32, first: u32) -> Option<Levels> {
-        let page = self.claim(number, Kind::Tower)?;
-        holds(u32_at(page, tower::SPAN) == first)?;
+        let head = self.claim(number, Kind::Tower)?;
+        holds(u32_at(&head, tower::SPAN) == first)?;
         let mut levels = Levels {
-            height: height(page)?,
+            height: height(&head)?,
             next: [0; MAX_NUMBERS],
             towers: 1,
         };
-        levels.pass(page, levels.height);
+        levels.pass(page(self.pages, number), levels.height);
         Some(levels)
     }
 
@@ -220,23 +234,22 @@ impl<'a> Walk<'a> {
         if number == 0 {
             return Some(());
         }
-        let page = self.pages.get(number as usize - 1)?;
-        if u32_at(page, tower::SPAN) != span {
+        let head = self.heads.get(number as usize - 1)?;
+        if u32_at(head, tower::SPAN) != span {
             return Some(());
         }
-        self.claim(number, Kind::Tower)?;
-        let height = height(page)?;
+        let height = height(&self.claim(number, Kind::Tower)?)?;
         holds((1..=levels.height).contains(&height) && levels.all_are(number, height))?;
-        levels.pass(page, height);
+        levels.pass(page(self.pages, number), height);
         levels.towers += 1;
         Some(())
     }
 }
 
 /// A tower's current height, if it keeps to its max height and that to 1 to 252.
-fn height(page: &Page) -> Option<usize> {
-    let max = usize::from(u16_at(page, tower::MAX_HEIGHT));
-    let height = usize::from(u16_at(page, tower::CURRENT));
+fn height(head: &Head) -> Option<usize> {
+    let max = usize::from(u16_at(head, tower::MAX_HEIGHT));
+    let height = usize::from(u16_at(head, tower::CURRENT));
     ((1..=MAX_NUMBERS).contains(&max) && height <= max).then_some(height)
 }
 
