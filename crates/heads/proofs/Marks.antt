@@ -1,6 +1,6 @@
 -- What it means that bytes begin with a mark.
 use Prim.Native.Nat.{ℕ, zero, suc, _+_, _*_, _-_, _≤_, _<_}
-use mathlib.Core.Bool.{Bool, true, false, _&&_, _||_, true≢false}
+use mathlib.Core.Bool.{Bool, true, false, _&&_, _||_, not, cond, true≢false}
 use mathlib.Core.List.{List, [], _∷_}
 use mathlib.Core.Path.{_≡_, refl, ap, ap₂, sym, _∙_, subst}
 use native.Mathlib.Nat.{le-of-suc-le-suc, not-suc-le-zero}
@@ -8,13 +8,13 @@ use native.Mathlib.Numerals.{add-one}
 use native.Mathlib.Omega.{arith}
 use lib.ListN.{length, take, drop, getD, length-take, length-drop}
 use lib.Seq.{drop-cons, getD-drop}
-use borrow.Author.Tests.{eq-eqb, ne-eqb, eqb-true}
+use borrow.Author.Tests.{eq-eqb, ne-eqb, eqb-true, eqb-false}
 use lib.Dec.{T, eqb, leb, eqb→eq, leb→le}
 use Rattle.blockfile.specs.Bytes.{be16, be32}
 use Rattle.blockfile.specs.Marks.{marks, superMark, skipMark, towerMark, spanMark, contMark, blockMark, freeMark}
 use Rattle.blockfile.proofs.Bools.{and-both}
-use Rattle.pages.proofs.Marks.{at, lengths, mark-length, mark-short}
-use Rattle.heads.specs.Begins.{number, begins}
+use Rattle.pages.proofs.Marks.{every, at, lengths, mark-length, mark-short}
+use Rattle.heads.specs.Begins.{number, begins, firstMark, kindOf}
 
 -- ---- beginning with a mark: both directions
 
@@ -201,3 +201,87 @@ module _ (k : ℕ) (h : k < 7) where
   mark-first =
       let t = and-both (leb 1 (getD (getD marks k []) 0 0)) (leb (getD (getD marks k []) 0 0) 254) (at firstOk 7 tt k h) in
       (leb→le _ _ (t .0), leb→le _ _ (t .1))
+
+-- ---- the kind of a page
+
+module _ (b : List ℕ) (k : ℕ) (h : k < 7) where
+  next-kind : firstMark (drop k marks) b ≡ cond (begins (getD marks k []) b) 0 (suc (firstMark (drop (k + 1) marks) b))
+  unfolding firstMark
+  next-kind = rw (drop-cons marks k [] h, add-one k)
+
+  pub kind-here : k + firstMark (drop k marks) b ≡ kindOf b → begins (getD marks k []) b ≡ true → k ≡ kindOf b
+  kind-here e t = omega (arith, rw t at next-kind)
+
+  pub kind-later : k + firstMark (drop k marks) b ≡ kindOf b → begins (getD marks k []) b ≡ false → k + 1 + firstMark (drop (k + 1) marks) b ≡ kindOf b
+  kind-later e t = omega (arith, rw t at next-kind)
+
+pub kind-none : (b : List ℕ) (k : ℕ) → k ≡ 7 → k + firstMark (drop k marks) b ≡ kindOf b → k ≡ kindOf b
+unfolding firstMark
+kind-none b k z e = z ∙ rw z at e
+
+-- ---- a page begins with the mark of its kind, and with no other
+
+first-begins : (ms : List (List ℕ)) (b : List ℕ) → firstMark ms b < length ms → begins (getD ms (firstMark ms b) []) b ≡ true
+unfolding firstMark
+first-begins [] b l = absurd (not-suc-le-zero l)
+first-begins (m ∷ ms) b l = go (begins m b) refl l (first-begins ms b)
+  where
+    go : (t : Bool) → begins m b ≡ t → cond t 0 (suc (firstMark ms b)) < suc (length ms) → (firstMark ms b < length ms → begins (getD ms (firstMark ms b) []) b ≡ true)
+        → begins (getD (m ∷ ms) (cond t 0 (suc (firstMark ms b))) []) b ≡ true
+    go true e l ih = e
+    go false e l ih = ih (le-of-suc-le-suc l)
+
+pub kind-begins : (b : List ℕ) → kindOf b < 7 → begins (getD marks (kindOf b) []) b ≡ true
+unfolding kindOf
+kind-begins b l = first-begins marks b l
+
+-- two lists differ at an index that both have
+abbrev differ : List ℕ → List ℕ → Bool
+differ [] b = false
+differ (x ∷ a) [] = false
+differ (x ∷ a) (y ∷ b) = not (eqb x y) || differ a b
+
+not-both : (a b s : List ℕ) → T (differ a b) → begins a s ≡ true → begins b s ≡ true → ⊥
+unfolding begins
+not-both [] b s t p q = t
+not-both (x ∷ a) [] s t p q = t
+not-both (x ∷ a) (y ∷ b) [] t p q = subst T (sym p) tt
+not-both (x ∷ a) (y ∷ b) (z ∷ s) t p q = go (eqb x y) (eqb z x) (eqb z y) refl refl refl t p q (not-both a b s)
+  where
+    go : (d e f : Bool) → eqb x y ≡ d → eqb z x ≡ e → eqb z y ≡ f → T (not d || differ a b)
+        → e && begins a s ≡ true → f && begins b s ≡ true → (T (differ a b) → begins a s ≡ true → begins b s ≡ true → ⊥) → ⊥
+    go d false f i j k t p q ih = subst T (sym p) tt
+    go d true false i j k t p q ih = subst T (sym q) tt
+    go true true true i j k t p q ih = ih t p q
+    go false true true i j k t p q ih = eqb-false x y i (omega (arith, eqb-true z x j, eqb-true z y k))
+
+pairOk : ℕ → ℕ → Bool
+pairOk j k = eqb j k || differ (getD marks j []) (getD marks k [])
+
+pairs : (j k : ℕ) → j < 7 → k < 7 → T (pairOk j k)
+unfolding pairOk superMark skipMark towerMark spanMark contMark blockMark freeMark
+pairs j k h l = at (pairOk j) 7 (at (λ j. every (pairOk j) 7) 7 tt j h) k l
+
+pub one-mark : (b : List ℕ) (j k : ℕ) → j < 7 → k < 7 → begins (getD marks j []) b ≡ true → begins (getD marks k []) b ≡ true → j ≡ k
+unfolding pairOk
+one-mark b j k h l p q = go (eqb j k) refl (pairs j k h l)
+  where
+    go : (t : Bool) → eqb j k ≡ t → T (t || differ (getD marks j []) (getD marks k [])) → j ≡ k
+    go true e t = eqb-true j k e
+    go false e t = absurd (not-both (getD marks j []) (getD marks k []) b t p q)
+
+first-most : (ms : List (List ℕ)) (b : List ℕ) (k : ℕ) → k < length ms → begins (getD ms k []) b ≡ true → firstMark ms b ≤ k
+unfolding firstMark
+first-most [] b k l e = absurd (not-suc-le-zero l)
+first-most (m ∷ ms) b zero l e = rw e (omega arith)
+first-most (m ∷ ms) b (suc k) l e = go (begins m b) (first-most ms b k (le-of-suc-le-suc l) e)
+  where
+    go : (t : Bool) → firstMark ms b ≤ k → cond t 0 (suc (firstMark ms b)) ≤ suc k
+    go true i = omega arith
+    go false i = omega arith
+
+pub begins-kind : (b : List ℕ) (k : ℕ) → k < 7 → begins (getD marks k []) b ≡ true → kindOf b ≡ k
+unfolding kindOf
+begins-kind b k h e =
+    let l : firstMark marks b < 7 = omega (arith, first-most marks b k h e) in
+    one-mark b (firstMark marks b) k l h (first-begins marks b l) e

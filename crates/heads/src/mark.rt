@@ -4,7 +4,7 @@ ghost use mathlib.Core.List.{[]};
 ghost use Prim.Native.Nat.{_+_, _≤_, _<_};
 ghost use lib.ListN.{length, take, drop, getD};
 ghost use Rattle.blockfile.specs.Marks.{marks};
-ghost use Rattle.heads.specs.Begins.{number, begins};
+ghost use Rattle.heads.specs.Begins.{number, begins, kindOf};
 use pages::mark::BLOCK;
 use pages::mark::CONTINUATION;
 use pages::mark::SKIP_LIST;
@@ -72,4 +72,19 @@ pub fn bears(bytes: &[u8], at: usize, kind: usize) -> bool
         return false;
     }
     true
+}
+
+// The kind of the page whose bytes begin at `at`, 7 if they begin with no mark.
+pub fn kind_of(bytes: &[u8], at: usize) -> usize
+    requires { ⌜ at + 8 ≤ length (now bytes) ⌝ }
+    ensures { λ r. ⌜ r ≡ kindOf (drop at (now (bytes .entry))) ⌝ }
+{
+    let mut kind = 0;
+    while kind < 7 {
+        if bears(bytes, at, kind) {
+            return kind;
+        }
+        kind += 1;
+    }
+    kind
 }
