@@ -107,7 +107,10 @@ fn call_task<'a>(case: &'a Case, lent: &'a RefCell<Lent>, program: &'a Program) 
     }
 }
 
-/// Makes the image again what it was.
+/// Makes the image again what it was, where the call changes it; else it stays as warm as a call
+/// leaves it.
 fn restore(case: &Case, lent: &RefCell<Lent>) {
-    lent.borrow_mut().image.copy_from_slice(&case.image);
+    if case.request.call.changes() {
+        lent.borrow_mut().image.copy_from_slice(&case.image);
+    }
 }

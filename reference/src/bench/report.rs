@@ -52,6 +52,8 @@ pub fn rows_table(rows: &[Row]) -> String {
 pub fn per_page_table(rows: &[Row]) -> String {
     let header = [
         "image",
+        "memory ns, 256 pages",
+        "4096 pages",
         "twin ns, 256 pages",
         "4096 pages",
         "library ns, 256 pages",
@@ -65,6 +67,8 @@ pub fn per_page_table(rows: &[Row]) -> String {
         let Some(large) = large else { continue };
         lines.push(vec![
             small.image.to_owned(),
+            per_page(Some(small.memory), 256),
+            per_page(Some(large.memory), 4096),
             per_page(Some(small.twin), 256),
             per_page(Some(large.twin), 4096),
             per_page(small.library, 256),
