@@ -1,35 +1,39 @@
-// Claims of pages, in the scratch: 16 bytes for each page, its head. The head of a claimed page begins with 0.
+// Claims of pages, in the scratch: 20 bytes for each page, its head. The first 16 bytes of all heads stand one behind the other, and
+// behind them the last four of all, so that a link's place is found by a shift. The head of a claimed page begins with 0.
 ghost use mathlib.Core.List.{List};
 ghost use mathlib.Core.Path.{_≡_};
-ghost use Prim.Native.Nat.{ℕ, _+_, _*_, _≤_, _<_};
+ghost use Prim.Native.Nat.{ℕ, _+_, _*_, _-_, _≤_, _<_};
 ghost use lib.ListN.{length};
 ghost use Rattle.pages.specs.Places.{Number};
-ghost use Rattle.heads.specs.Claims.{Room, Copied, HeadCopied, Headed, Lent, Claimed, Linking, full, linkAt};
+ghost use Rattle.heads.specs.Claims.{Room, Copied, HeadCopied, Headed, Lent, Claimed, InHead, full, pagesIn, headAt, head16, head32};
 use crate::mark::bears;
+use pages::read::word16;
 use pages::read::word32;
 
-// Copies 16 bytes.
-fn copy16(from: &[u8], start: usize, to: &mut [u8], at: usize)
-    requires { ⌜ (length (now from) ≤ 4194304) × (start + 16 ≤ length (now from)) × (length (now to) ≤ 4194304) × (at + 16 ≤ length (now to)) ⌝ }
-    ensures { λ _. ⌜ Copied (now (from .entry)) start (now (to .entry)) at 16 (now (to .exit)) ⌝ }
+// Copies n bytes.
+fn copy_bytes(from: &[u8], start: usize, to: &mut [u8], at: usize, n: usize)
+    requires { ⌜ (length (now from) ≤ 4194304) × (start + n ≤ length (now from)) × (length (now to) ≤ 4194304) × (at + n ≤ length (now to)) ⌝ }
+    ensures { λ _. ⌜ Copied (now (from .entry)) start (now (to .entry)) at n (now (to .exit)) ⌝ }
 {
     let mut i = 0;
-    while i < 16 {
+    while i < n {
         to[at + i] = from[start + i];
         i += 1;
     }
 }
 
 // Copies the head of the page of this index, by way of an array of its own, so that all of it is read before any of it is written
-// and the compiler takes it in one step. A page that begins with 0 bears no mark; its head begins with 255, as no mark does
+// and the compiler takes it in two steps. A page that begins with 0 bears no mark; its head begins with 255, as no mark does
 // either, and so is not taken for one of a claimed page.
 fn copy_head(image: &[u8], scratch: &mut [u8], index: usize)
-    requires { ⌜ Room (now image) (now scratch) × (16 * index < length (now scratch)) ⌝ }
+    requires { ⌜ Room (now image) (now scratch) × (20 * index < length (now scratch)) ⌝ }
     ensures { λ _. ⌜ HeadCopied (now (image .entry)) (now (scratch .entry)) index (now (scratch .exit)) ⌝ }
 {
-    let mut head = [0u8; 16];
-    copy16(image, 1024 * index, &mut head, 0);
-    copy16(&head, 0, scratch, 16 * index);
+    let pages = scratch.len() / 20;
+    let mut head = [0u8; 20];
+    copy_bytes(image, 1024 * index, &mut head, 0, 20);
+    copy_bytes(&head, 0, scratch, 16 * index, 16);
+    copy_bytes(&head, 16, scratch, 16 * pages + 4 * index, 4);
     if scratch[16 * index] == 0 {
         scratch[16 * index] = 255;
     }
@@ -40,7 +44,7 @@ pub fn copy_heads(image: &[u8], scratch: &mut [u8])
     requires { ⌜ Room (now image) (now scratch) ⌝ }
     ensures { λ _. ⌜ Headed (now (image .entry)) (now (scratch .exit)) ⌝ }
 {
-    let pages = scratch.len() / 16;
+    let pages = scratch.len() / 20;
     let mut index = 0;
     while index < pages {
         copy_head(image, scratch, index);
@@ -48,12 +52,31 @@ pub fn copy_heads(image: &[u8], scratch: &mut [u8])
     }
 }
 
-// The four bytes at an offset of a page's head.
-pub fn link(scratch: &[u8], page: usize, offset: usize) -> usize
-    requires { ⌜ Linking (now scratch) page offset ⌝ }
-    ensures { λ r. ⌜ Number (linkAt (now (scratch .entry)) page offset) 4294967296 r ⌝ }
+// Where the byte at an offset of a page's head stands.
+fn place(scratch: &[u8], page: usize, offset: usize) -> usize
+    requires { ⌜ (length (now scratch) ≤ 81920) × (1 ≤ page) × (page ≤ 4096) × (offset < 20) ⌝ }
+    ensures { λ r. ⌜ r ≡ headAt (pagesIn (now (scratch .entry))) (page - 1) offset ⌝ }
 {
-    word32(scratch, 16 * (page - 1) + offset)
+    if offset < 16 {
+        return 16 * (page - 1) + offset;
+    }
+    16 * (scratch.len() / 20) + 4 * (page - 1) + (offset - 16)
+}
+
+// The two bytes at an offset of a page's head.
+pub fn head16(scratch: &[u8], page: usize, offset: usize) -> usize
+    requires { ⌜ InHead (now scratch) page offset 2 ⌝ }
+    ensures { λ r. ⌜ Number (head16 (now (scratch .entry)) page offset) 65536 r ⌝ }
+{
+    word16(scratch, place(scratch, page, offset))
+}
+
+// The four bytes at an offset of a page's head.
+pub fn head32(scratch: &[u8], page: usize, offset: usize) -> usize
+    requires { ⌜ InHead (now scratch) page offset 4 ⌝ }
+    ensures { λ r. ⌜ Number (head32 (now (scratch .entry)) page offset) 4294967296 r ⌝ }
+{
+    word32(scratch, place(scratch, page, offset))
 }
 
 // Claims the page as the kind: it must be one of the pages, not claimed yet, and bear the mark; else nothing changes.
@@ -64,7 +87,7 @@ pub fn claim(scratch: &mut [u8], page: usize, kind: usize) -> bool
     if page == 0 {
         return false;
     }
-    if scratch.len() / 16 < page {
+    if scratch.len() / 20 < page {
         return false;
     }
     if bears(scratch, 16 * (page - 1), kind) {
@@ -78,7 +101,7 @@ pub fn claim(scratch: &mut [u8], page: usize, kind: usize) -> bool
 pub fn all_claimed(scratch: &[u8]) -> bool
     ensures { λ r. ⌜ r ≡ full (now (scratch .entry)) ⌝ }
 {
-    let pages = scratch.len() / 16;
+    let pages = scratch.len() / 20;
     let mut all = true;
     let mut i = 0;
     while i < pages {

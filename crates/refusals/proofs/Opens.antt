@@ -46,21 +46,21 @@ pub record Fits (img s : List ℕ) : Type 0 where
 -- ---- The scratch: s as it came; its first part is lent to verify, which leaves v of it
 
 module _ (img s : List ℕ) (fits : Fits img s) where
-  pub part-long : length (take (length img / 64) s) ≡ length img / 64
+  pub part-long : length (take (20 * (length img / 1024)) s) ≡ 20 * (length img / 1024)
   part-long = rw length-take (omega (arith, fits .enough))
 
   -- what verify asks of the part that it is lent
-  pub room : let part = take (length img / 64) s in Room img part × (4096 ≤ length img)
+  pub room : let part = take (20 * (length img / 1024)) s in Room img part × (4096 ≤ length img)
   room =
       let p = paged (length img) (fits .sized) in
       let long = part-long in
       (record { size = omega (arith, long, p .whole); whole = omega (arith, long, p .whole); most = omega (arith, long, p .whole, p .high) }, omega (arith, p .low))
 
   -- the scratch after it is as long as it was, and past the image's length as it was
-  pub kept : (v : List ℕ) → length v ≡ length img / 64
-      → let out = v ++ drop (length img / 64) s in (length out ≡ length s) × (drop (length img) out ≡ drop (length img) s)
+  pub kept : (v : List ℕ) → length v ≡ 20 * (length img / 1024)
+      → let out = v ++ drop (20 * (length img / 1024)) s in (length out ≡ length s) × (drop (length img) out ≡ drop (length img) s)
   kept v e =
-      let n = length img / 64 in
+      let n = 20 * (length img / 1024) in
       let more = length img - n in
       let on : length img ≡ length v + more = omega arith in
       let back : n + more ≡ length img = omega arith in (

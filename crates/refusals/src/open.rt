@@ -37,7 +37,7 @@ pub fn open(image: &[u8], scratch: &mut [u8]) -> Opened
         return Opened::Refused(Refusal::ScratchLength);
     }
     // room for the heads of the pages
-    let heads = image.len() / 64;
+    let heads = 20 * (image.len() / 1024);
     let Verdict::Good(counts) = verify(image, &mut scratch[..heads]) else {
         clear(scratch, image.len());
         return Opened::Refused(Refusal::NotWellFormed);

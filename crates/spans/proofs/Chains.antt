@@ -128,5 +128,5 @@ module _ {rule : Rule} {img scr : List ℕ} {z p prev : ℕ} {low : List ℕ} {a
           few = omega (arith, t .count, t .found .ok .size);
           kept = ap length left ∙ length-claims scr pages;
           less = omega (arith, ap unclaimed left, unclaimed-claims scr pages (found-fresh (t .found .found)));
-          lent = λ {img} h. subst (Lent img) (sym left) (lent-claims pages h);
+          lent = λ {img} h. subst (Lent img) (sym left) (lent-claims pages (found-fresh (t .found .found)) h);
         }

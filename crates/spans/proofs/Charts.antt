@@ -7,13 +7,15 @@ use mathlib.Core.Logic.{by-cases}
 use mathlib.Core.List.{List}
 use lib.ListN.{length, drop, getD, set, length-drop, length-set}
 use lib.Seq.{drop-drop, getD-set-same, getD-set-other}
+use Rattle.heads.specs.Claims.{Lent, InHead, head32}
+use Rattle.heads.proofs.Claims.{in-head, head32-is}
 use Rattle.entries.specs.declared.place.Place.{Place}
 use Rattle.entries.specs.Places.{Rest, Enough, Moved}
-use Rattle.entries.proofs.Rests.{rest-one, rest-next}
+use Rattle.entries.proofs.Rests.{rest-one, rest-in, rest-next}
 use Rattle.spans.specs.declared.entry.Last.{Last}
 use Rattle.spans.specs.declared.entry.Entered.the-variants.{Read}
 use Rattle.spans.specs.Entries.{taken, keyOf, Run, LastIs, Ended, Entering}
-use Rattle.spans.specs.Charts.{along, Charted, Noted, Spread}
+use Rattle.spans.specs.Charts.{along, Charted, Noted, Paged, Spread}
 use Rattle.spans.specs.Spans.{Rule}
 
 -- ---- Filled, page after page
@@ -90,50 +92,76 @@ module _ {img chart : List ℕ} {more : ℕ} {at : Place} {left : ℕ} (s : Spre
   -- ---- Found by the chart
 
   module _ {n : ℕ} (within : n ≤ left) where
-    pub leap-near : Enough img at n
-    leap-near = record { bytes = s .bytes; rest = s .rest; long = omega (arith, s .long) }
+    pub leap-enough : Enough img at n
+    leap-enough = record { bytes = s .bytes; rest = s .rest; long = omega (arith, s .long) }
 
     module _ (far : 16256 < n) where
       abbrev pub passed : ℕ
       passed = 1016 * more - (left - n)
 
-      abbrev pub place : ℕ
-      place = (passed - 1) / 16256
+      abbrev pub index : ℕ
+      index = (passed - 1) / 1016
 
-      -- a page of the chart, and the place is on it or on one of those up to the next
+      -- there is a continuation page of this index, and the place is on it
       pub record Near : Type 0 where
         pub some : 1 ≤ passed
-        pub there : 16 * place < more
-        pub charted : place < 256
-        pub before : 16256 * place < passed
+        pub there : index < more
+        pub before : 1016 * index < passed
+        pub on : passed ≤ 1016 * index + 1016
 
-      pub leap-place : Near
-      leap-place =
+      pub leap-near : Near
+      leap-near =
           let some : 1 ≤ passed = omega (arith, s .most) in
-          let before : 16256 * place < passed = omega (arith, some) in
-          record { some = some; there = omega (arith, before); charted = omega (arith, s .few); before = before }
+          let before : 1016 * index < passed = omega (arith, some) in
+          record { some = some; there = omega (arith, before); before = before; on = omega (arith, some) }
 
-      from-chart : Rest img (record { page = getD chart place 0; offset = 8 }) (drop (1016 * (16 * place)) (s .tail))
-      from-chart =
-          let w : Near = leap-place in
-          subst (λ (q : ℕ). Rest img (record { page = q; offset = 8 }) (drop (1016 * (16 * place)) (s .tail))) (sym (s .charted .pages place (w .there)))
-          (rest-along (16 * place) (s .from (omega (arith, w .there))) (omega (arith, w .there, s .all)))
+      pub leap-paged : {scr : List ℕ} → Lent img scr → Paged scr chart img (s .first) index
+      leap-paged lent =
+          let w : Near = leap-near in
+          record {
+            lent = lent;
+            more = more;
+            charted = s .charted;
+            there = w .there;
+            few = s .few;
+            inside = λ i h. rest-along i (s .from (omega (arith, w .there))) (omega (arith, w .there, s .all)) .page;
+          }
 
-      module _ {q : ℕ} (is : q ≡ getD chart place 0) where
-        here : Rest img (record { page = q; offset = 8 }) (drop (1016 * (16 * place)) (s .tail))
-        here = subst (λ (x : ℕ). Rest img (record { page = x; offset = 8 }) (drop (1016 * (16 * place)) (s .tail))) (sym is) from-chart
+      pub leap-moved : {q : ℕ} → q ≡ along img (s .first) index → Moved img at n (record { page = q; offset = 8 + (passed - 1016 * index) })
+      leap-moved {q} is =
+          let w : Near = leap-near in
+          let start : Rest img (record { page = along img (s .first) index; offset = 8 }) (drop (1016 * index) (s .tail))
+          = rest-along index (s .from (omega (arith, w .there))) (omega (arith, w .there, s .all)) in
+          let sum : 1016 * index + (passed - 1016 * index) ≡ length (s .tail) - (left - n) = omega (arith, s .all, w .before) in
+          let size : length (s .bytes) - (left - n) ≡ n = omega (arith, s .long) in
+          let bytes : drop (passed - 1016 * index) (drop (1016 * index) (s .tail)) ≡ drop n (s .bytes)
+          = drop-drop (passed - 1016 * index) (1016 * index) (s .tail) ∙ ap (λ (k : ℕ). drop k (s .tail)) sum
+          ∙ sym (s .ends (left - n) (omega (arith, s .long)) (omega (arith, s .all, w .some))) ∙ ap (λ (k : ℕ). drop k (s .bytes)) size in
+          let to : Rest img (record { page = q; offset = 8 + (passed - 1016 * index) }) (drop n (s .bytes))
+          = subst (λ (x : ℕ). Rest img (record { page = x; offset = 8 + (passed - 1016 * index) }) (drop n (s .bytes))) (sym is)
+          (subst (Rest img _) bytes (rest-in img (record { page = along img (s .first) index; offset = 8 }) (drop (1016 * index) (s .tail)) start (passed - 1016 * index) (omega (arith, w .on)))) in
+          record { to = λ t u. subst (λ (l : List ℕ). Rest img (record { page = q; offset = 8 + (passed - 1016 * index) }) (drop n l)) (rest-one img at (s .bytes) (s .rest) t u) to }
 
-        pub leap-enough : Enough img (record { page = q; offset = 8 }) (passed - 16256 * place)
-        leap-enough = record { bytes = drop (1016 * (16 * place)) (s .tail); rest = here; long = rw length-drop (omega (arith, s .all, leap-place .before)) }
+-- ---- A continuation page by its index: the loop along the heads, with k links to go
 
-        pub leap-moved : {r : Place} → Moved img (record { page = q; offset = 8 }) (passed - 16256 * place) r → Moved img at n r
-        leap-moved {r} m =
-            let w : Near = leap-place in
-            let sum : 1016 * (16 * place) + (passed - 16256 * place) ≡ length (s .tail) - (left - n) = omega (arith, s .all, w .before) in
-            let size : length (s .bytes) - (left - n) ≡ n = omega (arith, s .long) in
-            let to : Rest img r (drop n (s .bytes))
-            = subst (Rest img r)
-            (drop-drop (passed - 16256 * place) (1016 * (16 * place)) (s .tail) ∙ ap (λ (k : ℕ). drop k (s .tail)) sum
-            ∙ sym (s .ends (left - n) (omega (arith, s .long)) (omega (arith, s .all, w .some))) ∙ ap (λ (k : ℕ). drop k (s .bytes)) size)
-            (m .to (drop (1016 * (16 * place)) (s .tail)) here) in
-            record { to = λ t u. subst (λ (l : List ℕ). Rest img r (drop n l)) (rest-one img at (s .bytes) (s .rest) t u) to }
+module _ {scr chart img : List ℕ} {p index : ℕ} (w : Paged scr chart img p index) where
+  -- the chart has the page that the loop starts from
+  pub paged-few : index < 4096
+  paged-few = omega (arith, w .there, w .few)
+
+  pub paged-start : getD chart (index / 16) 0 ≡ along img p (index - index % 16)
+  paged-start =
+      let there = w .there in
+      let e : 16 * (index / 16) ≡ index - index % 16 = omega arith in
+      w .charted .pages (index / 16) (omega arith) ∙ ap (along img p) e
+
+  pub paged-here : (k : ℕ) → InHead scr (along img p (index - k)) 4 4
+  paged-here k = let i = w .inside (index - k) (omega arith) in in-head (w .lent) (i .low) (i .high) (omega arith)
+
+  pub paged-next : {k page next : ℕ} → 1 ≤ k → k ≤ index → page ≡ along img p (index - k) → next ≡ head32 scr page 4 → next ≡ along img p (index - (k - 1))
+  paged-next {k} low high e is =
+      let sum : suc (index - k) ≡ index - (k - 1) = omega arith in
+      is ∙ ap (λ (n : ℕ). head32 scr n 4) e ∙ head32-is (w .lent) (paged-here k) (omega arith) ∙ ap (along img p) sum
+
+  pub paged-end : {k page : ℕ} → k ≡ 0 → page ≡ along img p (index - k) → page ≡ along img p index
+  paged-end {k} z e = let sum : index - k ≡ index = omega arith in e ∙ ap (along img p) sum

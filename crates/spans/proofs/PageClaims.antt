@@ -1,5 +1,5 @@
 -- The ways through `claim_conts` and `claim_span`.
-use Prim.Native.Nat.{ℕ, _+_, _*_, _≤_, _<_}
+use Prim.Native.Nat.{ℕ, _+_, _≤_, _<_}
 use native.Mathlib.Omega.{arith}
 use native.Mathlib.Numerals.{add-one}
 use mathlib.Core.Path.{_≡_, refl, ap, sym, _∙_, subst}
@@ -10,8 +10,9 @@ use Rattle.blockfile.specs.Bytes.{pg, be32, Every, firstOf}
 use Rattle.blockfile.specs.Marks.{spanMark, contMark, marks}
 use Rattle.blockfile.specs.Fields.{AreConts}
 use Rattle.heads.specs.Begins.{begins}
-use Rattle.heads.specs.Claims.{Lent, Claimed, claimed}
+use Rattle.heads.specs.Claims.{Room, Lent, Claimed, claimed}
 use Rattle.heads.proofs.Marks.{begins-take, take-begins}
+use Rattle.heads.proofs.Claims.{room-long}
 use Rattle.walks.specs.Found.{Open, Fresh, claims, unclaimed, FindsAt}
 use Rattle.walks.proofs.Founds.{length-claimed, unclaimed-most, open-claimable, SameAt, same-start, same-turn, finds-none, finds-done}
 use Rattle.walks.proofs.Pieces.{claim-left, claim-open, claim-begins, claim-length, claim-falls, claim-lent}
@@ -136,9 +137,9 @@ module _ {img scr₀ : List ℕ} {start : ℕ} {scr chart : List ℕ} {p n : ℕ
     module _ (e : r ≡ true) where
       -- what noting the page asks
       pub noting-few : (n < 4096) × (p ≤ 4096)
-      noting-few = let most = w .claiming .lent .most in (
-        omega (arith, most, w .claiming .kept, unclaimed-most scr₀, w .claiming .few, claim-falls c e),
-        omega (arith, most, claim-open c e .high),
+      noting-few = let room = w .claiming .lent .room in (
+        omega (arith, room .whole, room .most, w .claiming .kept, unclaimed-most scr₀, w .claiming .few, claim-falls c e),
+        omega (arith, room .whole, room .most, claim-open c e .high),
       )
 
       pub noting-next : {new : List ℕ} → Noted chart n p new → (next : ℕ) → next ≡ be32 (pg img p) 4 → Noting img scr₀ start out new next (n + 1)
@@ -191,7 +192,7 @@ module _ {img scr : List ℕ} {p : ℕ} {r : Bool} {mid : List ℕ} (c : Claimed
 
 -- ---- claimed pages are pages of the image
 
-pub inside-fresh : (img scr ns : List ℕ) → length img ≡ 64 * length scr → Fresh scr ns → Every (IsPage img) ns
-inside-fresh img scr [] e f = tt
-inside-fresh img scr (n ∷ ns) e f =
-    (record { low = f .0 .low; high = omega (arith, f .0 .high) }, inside-fresh img (claimed scr n) ns (omega (arith, length-claimed scr n)) (f .1))
+pub inside-fresh : (img scr ns : List ℕ) → Room img scr → Fresh scr ns → Every (IsPage img) ns
+inside-fresh img scr [] room f = tt
+inside-fresh img scr (n ∷ ns) room f =
+    (record { low = f .0 .low; high = omega (arith, f .0 .high, room .size, room .whole) }, inside-fresh img (claimed scr n) ns (room-long (length-claimed scr n) room) (f .1))

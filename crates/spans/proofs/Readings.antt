@@ -10,8 +10,8 @@ use Rattle.blockfile.specs.Layout.{Entry, entriesEnd, reached}
 use Rattle.blockfile.specs.Fields.{AreConts}
 use Rattle.laws.proofs.Pages.{length-pg}
 use Rattle.pages.specs.Places.{Number}
-use Rattle.heads.specs.Claims.{Lent, Linking, linkAt}
-use Rattle.heads.proofs.Claims.{linking, link-read}
+use Rattle.heads.specs.Claims.{Lent, InHead}
+use Rattle.heads.proofs.Claims.{in-head}
 use Rattle.entries.specs.declared.place.Place.{Place}
 use Rattle.entries.specs.Places.{IsPage, streamOf, Rest}
 use Rattle.entries.proofs.Rests.{length-stream, conts-one, rest-in}
@@ -64,13 +64,9 @@ module _ {img : List ℕ} {p more : ℕ} {l : Last} (r : ReadySpan img p more l)
   pub span-ready : Ready img (record { page = p; offset = 20 }) (1004 + 1016 * more) l
   span-ready = record { bytes = drop 12 st; rest = from-20; long = rw length-drop (omega (arith, whole, r .long)); low = r .low; key = r .key }
 
-  -- links are read from the span's head
-  module _ {scr : List ℕ} (lent : Lent img scr) {o : ℕ} (some : 1 ≤ o) (fits : o + 4 ≤ 16) where
-    pub span-linking : Linking scr p o
-    span-linking = linking lent (r .pages .page .low) (r .pages .page .high) fits
-
-    pub span-link : {top v : ℕ} → Number (linkAt scr p o) top v → Number (be32 (pg img p) o) top v
-    span-link x = link-read lent p (span-linking .low) (span-linking .high) o some fits x
+  -- its fields are in its head
+  pub span-in-head : {scr : List ℕ} → Lent img scr → {o w : ℕ} → o + w ≤ 16 + 4 * (o / 16) → InHead scr p o w
+  span-in-head lent fits = in-head lent (r .pages .page .low) (r .pages .page .high) fits
 
   -- the first continuation page
   from-first : (cs : List ℕ) → be32 (pg img p) 4 ≡ firstOf cs → AreConts cs (map (pg img) cs) → Every (IsPage img) cs → 0 < length cs
@@ -116,7 +112,13 @@ module _ {img : List ℕ} {p more : ℕ} {l : Last} (r : ReadySpan img p more l)
     pub read-other : {g : ℕ} → Number (be32 (pg img p) 8) 4294967296 g → (g ≡ prev → ⊥) → Reading rule img p prev z l Wrong
     read-other g n = all-of Wrong (λ es next b. n (g .is ∙ b .bears .prev))
 
+    pub read-max : {m : ℕ} → Number (be16 (pg img p) 16) 65536 m → (m ≡ z → ⊥) → Reading rule img p prev z l Wrong
+    read-max m n = all-of Wrong (λ es next b. n (m .is ∙ b .bears .maxKeys))
+
     module _ {n : ℕ} (e : Number (be16 (pg img p) 18) 65536 n) where
+      pub read-over : z < n → Reading rule img p prev z l Wrong
+      read-over h = all-of Wrong (λ es next b. omega (arith, e .is, b .bears .size, b .ok .size))
+
       -- the run that the entries of a span are, and where it ends
       record Ran (es : List Entry) : Type 0 where
         run : Run rule (drop 12 st) (r .low) n (drop (entriesEnd 12 es) st) (lastKey (r .low) es)

@@ -71,8 +71,8 @@ module _ {rule : Rule} {img scr : List ℕ} {prev z : ℕ} {low : List ℕ} {sp 
 
 pages-of : {img scr : List ℕ} {p m : ℕ} {s : List ℕ} → Lent img scr → (x : PagesFound img scr p m s) → SpanPages img p (x .conts)
 pages-of {img} {scr} {p} lent x =
-    let all : Every (IsPage img) (p ∷ x .conts) = inside-fresh img scr (p ∷ x .conts) (lent .size) (x .fresh) in
-    record { small = omega (arith, lent .size, lent .most); page = all .0; marked = x .marked; linked = x .linked; are = x .are; inside = all .1 }
+    let all : Every (IsPage img) (p ∷ x .conts) = inside-fresh img scr (p ∷ x .conts) (lent .room) (x .fresh) in
+    record { small = omega (arith, lent .room .size, lent .room .most); page = all .0; marked = x .marked; linked = x .linked; are = x .are; inside = all .1 }
 
 module _ {img scr : List ℕ} {p : ℕ} (lent : Lent img scr) {a : Claims} {s : List ℕ} (f : FindsAt held (PagesFound img scr p) a s) where
   pub verify-ready : {m : ℕ} → a ≡ Held m → {l : Last} → Met img l → ReadySpan img p m l
@@ -82,14 +82,14 @@ module _ {img scr : List ℕ} {p : ℕ} (lent : Lent img scr) {a : Claims} {s : 
         conts = y .conts;
         pages = pages-of lent y;
         long = y .long;
-        few = omega (arith, y .long, unclaimed-most scr, lent .most, unclaimed-claims scr (p ∷ y .conts) (y .fresh));
+        few = omega (arith, y .long, unclaimed-most scr, lent .room .whole, lent .room .most, unclaimed-claims scr (p ∷ y .conts) (y .fresh));
         low = k .low;
         key = k .key;
       }
 
   -- the scratch after the claims
   pub verify-lent : {m : ℕ} → a ≡ Held m → Lent img s
-  verify-lent {m} e = let y : PagesFound img scr p m s = f .sound m e in subst (Lent img) (sym (y .left)) (lent-claims (p ∷ y .conts) lent)
+  verify-lent {m} e = let y : PagesFound img scr p m s = f .sound m e in subst (Lent img) (sym (y .left)) (lent-claims (p ∷ y .conts) (y .fresh) lent)
 
   module _ {rule : Rule} {prev z : ℕ} where
     -- the span is on page p

@@ -4,8 +4,9 @@ use mathlib.Core.Path.{_≡_}
 use mathlib.Core.List.{List}
 use lib.ListN.{length, drop, getD}
 use Rattle.blockfile.specs.Bytes.{pg, be32}
+use Rattle.heads.specs.Claims.{Lent}
 use Rattle.entries.specs.declared.place.Place.{Place}
-use Rattle.entries.specs.Places.{Rest}
+use Rattle.entries.specs.Places.{IsPage, Rest}
 
 -- the page that n links of continuation pages lead to, from page p on
 abbrev pub along : (img : List ℕ) (p n : ℕ) → ℕ
@@ -22,6 +23,15 @@ pub record Noted (old : List ℕ) (index page : ℕ) (new : List ℕ) : Type 0 w
   pub long : length new ≡ length old
   pub here : (i : ℕ) → index ≡ 16 * i → getD new i 0 ≡ page
   pub kept : (i : ℕ) → 16 * i < index → getD new i 0 ≡ getD old i 0
+
+-- the scratch has the heads of the image, and the chart the continuation pages from p on, one of which has this index
+pub record Paged (scr chart img : List ℕ) (p index : ℕ) : Type 0 where
+  pub lent : Lent img scr
+  pub more : ℕ
+  pub charted : Charted img p more chart
+  pub there : index < more
+  pub few : more ≤ 4096
+  pub inside : (i : ℕ) → i ≤ index → IsPage img (along img p i)
 
 -- a place in the pages of a span whose continuation pages are in the chart: the bytes from the place on end as those of the
 -- continuation pages, the tail, do

@@ -7,7 +7,7 @@ ghost use Rattle.heads.specs.Claims.{Lent, Kept};
 ghost use Rattle.spans.specs.Charts.{Noted};
 ghost use Rattle.spans.specs.Parts.{ContsClaimed, PagesClaimed};
 use heads::claim::claim;
-use heads::claim::link;
+use heads::claim::head32;
 use pages::mark;
 
 // Pages that were claimed: refused, or held, with the number of continuation pages.
@@ -40,7 +40,7 @@ fn claim_conts(scratch: &mut [u8], chart: &mut [u16], start: usize) -> Claims
         }
         note(chart, count, page);
         count += 1;
-        page = link(scratch, page, 4);
+        page = head32(scratch, page, 4);
     }
     Claims::Held(count)
 }
@@ -51,7 +51,7 @@ pub fn claim_span(scratch: &mut [u8], chart: &mut [u16], page: usize) -> Claims
     ensures { λ r. ⌜ ((img : List ℕ) → Lent img (now (scratch .entry)) → PagesClaimed img (now (scratch .entry)) page r (now (scratch .exit)) (now (chart .exit))) ⌝ }
 {
     if claim(scratch, page, mark::SPAN) {
-        let first = link(scratch, page, 4);
+        let first = head32(scratch, page, 4);
         return claim_conts(scratch, chart, first);
     }
     Claims::Refused

@@ -1,9 +1,12 @@
 // The entries of a span: lengths that fit, keys that rise.
-ghost use Prim.Native.Nat.{_≤_};
+ghost use mathlib.Core.List.{List};
+ghost use mathlib.Core.Path.{_≡_};
+ghost use Prim.Native.Nat.{ℕ, _≤_};
+ghost use Rattle.heads.specs.Claims.{Lent};
 ghost use Rattle.entries.specs.Keys.{Key};
 ghost use Rattle.entries.specs.Places.{Moved, Measured};
 ghost use Rattle.spans.specs.Spans.{Keys};
-ghost use Rattle.spans.specs.Charts.{Spread};
+ghost use Rattle.spans.specs.Charts.{along, Paged, Spread};
 ghost use Rattle.spans.specs.Entries.{Met, IsAbove, Whole, Ready, Entering, Tries, Skims};
 use entries::key::Order;
 use entries::key::compare_keys;
@@ -13,6 +16,7 @@ use entries::place::gap;
 use entries::place::lengths;
 use entries::prefix::prefix;
 use entries::prefix::prefix_most;
+use heads::claim::head32;
 use reader::place_after;
 
 // The last key met: its place, its length, 0 where there is none, and a number that its prefix is not above.
@@ -57,32 +61,57 @@ fn above(image: &[u8], last: Last, at: Place, key: usize) -> bool
     }
 }
 
+// The continuation page of this index: one of the chart, and from there at most fifteen links of the heads.
+fn nth_page(scratch: &[u8], chart: &[u16], index: usize) -> usize
+    requires { ⌜ ((img : List ℕ) × ((p : ℕ) × Paged (now scratch) (now chart) img p index)) ⌝ }
+    ensures { λ r. ⌜ ((img : List ℕ) (p : ℕ) → Paged (now (scratch .entry)) (now (chart .entry)) img p index → r ≡ along img p index) ⌝ }
+{
+    let mut page = chart[index / 16] as usize;
+    let mut links = index % 16;
+    while links != 0 {
+        page = head32(scratch, page, 4);
+        links -= 1;
+    }
+    page
+}
+
 // The place n bytes on. `left` bytes are left from here on up to the end of the span's pages, of which `more` are continuation
-// pages. Where many are passed, the chart has one that is near.
-fn leap(image: &[u8], chart: &[u16], more: usize, at: Place, left: usize, n: usize) -> Place
-    requires { ⌜ Spread (now image) (now chart) more at left × (n ≤ left) ⌝ }
+// pages. Where many are passed, the page is found by its index among them.
+fn leap(
+    image: &[u8],
+    scratch: &[u8],
+    chart: &[u16],
+    more: usize,
+    at: Place,
+    left: usize,
+    n: usize,
+) -> Place
+    requires { ⌜ Lent (now image) (now scratch) × Spread (now image) (now chart) more at left × (n ≤ left) ⌝ }
     ensures { λ r. ⌜ Moved (now (image .entry)) at n r ⌝ }
 {
     if n <= 16256 {
         return place_after(image, at, n);
     }
     let passed = 1016 * more - (left - n);
-    let i = (passed - 1) / 16256;
-    let page = chart[i] as usize;
-    let from = Place { page, offset: 8 };
-    place_after(image, from, passed - 16256 * i)
+    let index = (passed - 1) / 1016;
+    let page = nth_page(scratch, chart, index);
+    Place {
+        page,
+        offset: 8 + (passed - 1016 * index),
+    }
 }
 
 // Reads the entry that follows; `left` bytes are left up to the end of the span's pages, of which `more` are continuation pages.
 fn verify_entry(
     image: &[u8],
+    scratch: &[u8],
     chart: &[u16],
     more: usize,
     at: Place,
     left: usize,
     last: Last,
 ) -> Entered
-    requires { ⌜ Ready (now image) at left last × Spread (now image) (now chart) more at left ⌝ }
+    requires { ⌜ Lent (now image) (now scratch) × Ready (now image) at left last × Spread (now image) (now chart) more at left ⌝ }
     ensures { λ r. ⌜ Entering Keys (now (image .entry)) at last 1 r ⌝ }
 {
     let offset = at.offset;
@@ -101,7 +130,7 @@ fn verify_entry(
     if !above(image, last, start, key) {
         return Entered::Bad;
     }
-    let after = leap(image, chart, more, start, left - skipped - 4, both);
+    let after = leap(image, scratch, chart, more, start, left - skipped - 4, both);
     let prefix = prefix_most(image, start, key);
     Entered::Read(
         after,
@@ -180,6 +209,7 @@ fn skim(image: &[u8], at: Place, left: usize, size: usize, last: Last) -> Skimme
 // Reads `size` entries.
 pub fn verify_entries(
     image: &[u8],
+    scratch: &[u8],
     chart: &[u16],
     more: usize,
     at: Place,
@@ -187,7 +217,7 @@ pub fn verify_entries(
     size: usize,
     last: Last,
 ) -> Entered
-    requires { ⌜ Ready (now image) at left last × Spread (now image) (now chart) more at left ⌝ }
+    requires { ⌜ Lent (now image) (now scratch) × Ready (now image) at left last × Spread (now image) (now chart) more at left ⌝ }
     ensures { λ r. ⌜ Entering Keys (now (image .entry)) at last size r ⌝ }
 {
     let mut here = at;
@@ -202,7 +232,7 @@ pub fn verify_entries(
         if size - i <= n {
             return Entered::Read(p, s.left, k);
         }
-        let Entered::Read(q, m, h) = verify_entry(image, chart, more, p, s.left, k) else {
+        let Entered::Read(q, m, h) = verify_entry(image, scratch, chart, more, p, s.left, k) else {
             return Entered::Bad;
         };
         here = q;

@@ -13,8 +13,8 @@ use crate::entry::Entered;
 use crate::entry::Last;
 use crate::entry::verify_entries;
 use entries::place::Place;
-use heads::claim::link;
-use pages::read::get16;
+use heads::claim::head16;
+use heads::claim::head32;
 
 // The answer for a span: wrong, or right with the number of its entries, the next span's page and the last key met.
 pub enum Spanned {
@@ -37,19 +37,20 @@ fn read_span(
     requires { ⌜ Lent (now image) (now scratch) × ReadySpan (now image) page more last × Charted (now image) (be32 (pg (now image) page) 4) more (now chart) ⌝ }
     ensures { λ r. ⌜ Reading Keys (now (image .entry)) page previous most last r ⌝ }
 {
-    if link(scratch, page, 8) != previous {
+    if head32(scratch, page, 8) != previous {
         return Spanned::Wrong;
     }
-    if get16(image, page, 16) != most {
+    if head16(scratch, page, 16) != most {
         return Spanned::Wrong;
     }
-    let size = get16(image, page, 18);
+    let size = head16(scratch, page, 18);
     if most < size {
         return Spanned::Wrong;
     }
     let start = Place { page, offset: 20 };
     let Entered::Read(_, left, key) = verify_entries(
         image,
+        scratch,
         chart,
         more,
         start,
@@ -62,7 +63,7 @@ fn read_span(
     if 1016 <= left {
         return Spanned::Wrong;
     }
-    let next = link(scratch, page, 12);
+    let next = head32(scratch, page, 12);
     Spanned::Right(size, next, key)
 }
 

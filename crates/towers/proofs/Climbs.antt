@@ -1,5 +1,5 @@
 -- The walk over the towers of the spans after the first.
-use Prim.Native.Nat.{ℕ, suc, _+_, _*_, _≤_, _<_}
+use Prim.Native.Nat.{ℕ, suc, _+_, _*_, _/_, _≤_, _<_}
 use native.Mathlib.Omega.{arith}
 use native.Mathlib.Decide.{decLt}
 use mathlib.Core.Path.{_≡_, refl, ap, sym, _∙_, subst}
@@ -15,8 +15,8 @@ use Rattle.blockfile.specs.Layout.{Span, Tower, Column, spansOf, towersOf}
 use Rattle.blockfile.specs.Fields.{LinkedTower, IsTower}
 use Rattle.blockfile.specs.WellFormed.{Piece, tower, Bears, nextAt, linkTowers}
 use Rattle.laws.proofs.Chains.{entry-at, at-entries}
-use Rattle.heads.specs.Claims.{Lent, claimable, claimed, Claimed, linkAt}
-use Rattle.heads.proofs.Claims.{lent-claimed}
+use Rattle.heads.specs.Claims.{Lent, claimable, claimed, Claimed, InHead, head32}
+use Rattle.heads.proofs.Claims.{lent-claimed, in-head}
 use Rattle.heads.proofs.Marks.{begins-take, take-begins}
 use Rattle.walks.specs.declared.Walked.{Walked}
 use Rattle.walks.specs.declared.Walked.the-variants.{Refused, Done}
@@ -38,10 +38,6 @@ module _ (img scr : List ℕ) (lo hi n : ℕ) (r : Bool) (s : List ℕ) (c : Cla
   tower-no e = finds-none Done Refused s (same-start (TowerFound img scr lo hi n)) refused-never (λ m t f. true≢false (sym (f .can) ∙ claim-not img scr n 2 r s c e))
 
   module _ (e : r ≡ true) where
-    -- what the code needs to read on
-    pub tower-open : Open scr n
-    tower-open = claimable-open img scr n 2 (claim-done img scr n 2 r s c e .0) .0
-
     module _ (h max : ℕ) (h-is : h ≡ be16 (pg img n) 10) (max-is : max ≡ be16 (pg img n) 8) (q : Bool) (d : Decides (Tall lo hi max h) q) where
       pub tower-not : q ≡ false → FindsAt Done (TowerFound img scr lo hi n) Refused s
       tower-not f =
@@ -59,7 +55,13 @@ pub found-open : (img scr : List ℕ) (lo hi n m : ℕ) (out : List ℕ) → Tow
 found-open img scr lo hi n m out f = claimable-open img scr n 2 (f .can) .0
 
 pub found-lent : (img scr : List ℕ) (lo hi n m : ℕ) (out : List ℕ) → TowerFound img scr lo hi n m out → Lent img scr → Lent img out
-found-lent img scr lo hi n m out f l = subst (Lent img) (sym (f .left)) (lent-claimed n l)
+found-lent img scr lo hi n m out f l = let o = found-open img scr lo hi n m out f in subst (Lent img) (sym (f .left)) (lent-claimed n (o .low) (o .high) l)
+
+-- its fields are in its head
+pub found-in-head : {img scr : List ℕ} {lo hi n m : ℕ} {out : List ℕ} → TowerFound img scr lo hi n m out → Lent img scr → {o w : ℕ} → o + w ≤ 16 + 4 * (o / 16) → InHead out n o w
+found-in-head f l fits =
+    let o = found-open _ _ _ _ _ _ _ f in
+    in-head (found-lent _ _ _ _ _ _ _ f l) (o .low) (omega (arith, o .high, l .room .size, l .room .whole)) fits
 
 -- ---- A tower on its span
 
@@ -294,7 +296,8 @@ climbing-start img scr head top start levels out lent k w z f low e =
 
 -- what the code needs of a turn that goes on: a tower of height k was claimed on page n
 pub record Turn (img scr : List ℕ) (top n k : ℕ) (out : List ℕ) : Type 0 where
-  pub page : Open scr n
+  pub low : 1 ≤ n
+  pub high : 1024 * n ≤ length img
   pub lent : Lent img out
   pub spanLow : 1 ≤ spanUnder img n
   pub spanHigh : 1024 * spanUnder img n ≤ length img
@@ -331,7 +334,8 @@ module _ (img scr₀ : List ℕ) (head top start : ℕ) (scr levels : List ℕ) 
           let x = b .sound k e in
           let o = found-open img scr 1 top n k s (x .found) in
           record {
-            page = o;
+            low = o .low;
+            high = omega (arith, o .high, v .lent .room .size, v .lent .room .whole);
             lent = found-lent img scr 1 top n k s (x .found) (v .lent);
             spanLow = x .reach .low;
             spanHigh = x .reach .high;
@@ -352,7 +356,7 @@ module _ (img scr₀ : List ℕ) (head top start : ℕ) (scr levels : List ℕ) 
                 (x .more out (subst (λ (y : ℕ). Followed img n y levels out) h f));
           }
 
-      pub climbing-next : (out : List ℕ) → Followed img n k levels out → (span next : ℕ) → span ≡ spanUnder img n → next ≡ linkAt s span 12
+      pub climbing-next : (out : List ℕ) → Followed img n k levels out → (span next : ℕ) → span ≡ spanUnder img n → next ≡ head32 s span 12
           → (low : ℕ) → low ≡ be32 (pg img n) 16 → Climbing img scr₀ head top start s out next (count + 1) low
       climbing-next out f span next e₁ e₂ low l =
           let t = climbing-turn in

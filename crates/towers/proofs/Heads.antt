@@ -11,7 +11,8 @@ use Rattle.blockfile.specs.Fields.{LinkedTower, IsTower}
 use Rattle.blockfile.specs.WellFormed.{Piece, span, tower, pagesOf, Bears, nextAt, linkSpans, linkTowers}
 use Rattle.blockfile.proofs.Every.{every-so, every-both}
 use Rattle.laws.proofs.Chains.{entry-at}
-use Rattle.heads.specs.Claims.{Lent, claimed, linkAt, Linking}
+use Rattle.heads.specs.Claims.{Room, Lent, claimed, head32, InHead}
+use Rattle.heads.proofs.Claims.{room-long, in-head, head32-is}
 use Rattle.walks.specs.declared.Walked.{Walked}
 use Rattle.walks.specs.declared.Walked.the-variants.{Refused, Done}
 use Rattle.walks.specs.Found.{Open, Fresh, claims, Found, FindsAt}
@@ -19,7 +20,7 @@ use Rattle.walks.proofs.Founds.{same-start, finds-none, finds-same, done-inject
 use Rattle.walks.proofs.Pieces.{found-claimable, found-rest, found-cons}
 use Rattle.towers.specs.Towers.{Spanned, TowersFound}
 use Rattle.towers.specs.Climb.{entryAt, nextSpan, Way, Linked, Tall, spanUnder, TowerFound, Climb}
-use Rattle.towers.proofs.Ways.{next-is, way-unique}
+use Rattle.towers.proofs.Ways.{way-unique}
 use Rattle.towers.proofs.Climbs.{tower-single, raised, towerAt, tower-bears}
 
 -- ---- Spans that were verified
@@ -43,17 +44,11 @@ module _ (img : List ℕ) (p z : ℕ) (s : Span) (others : List Span) (sp : Span
   others-way = subst (λ (q : ℕ). Way img (nextSpan img q) 0 (pages others)) (sp .here) (spans-way img z 0 (s ∷ others) (sp .bears) (sp .inside) .3)
 
   -- the first span is on a page of the image, and its head has its next link
-  pub first-linking : {scr : List ℕ} → Lent img scr → Linking scr p 12
-  first-linking lent =
-      record {
-        small = lent .most;
-        low = subst (λ (q : ℕ). 1 ≤ q) (sp .here) (sp .inside .0 .0);
-        high = omega (arith, lent .size, sp .here, sp .inside .0 .1);
-        fits = omega arith;
-      }
+  pub first-in-head : {scr : List ℕ} → Lent img scr → InHead scr p 12 4
+  first-in-head lent = in-head lent (subst (λ (q : ℕ). 1 ≤ q) (sp .here) (sp .inside .0 .0)) (omega (arith, sp .here, sp .inside .0 .1)) (omega arith)
 
-  pub first-next : {scr : List ℕ} → Lent img scr → linkAt scr p 12 ≡ nextSpan img p
-  first-next lent = let l = first-linking lent in next-is lent p (l .low) (omega (arith, lent .size, l .high))
+  pub first-next : {scr : List ℕ} → Lent img scr → head32 scr p 12 ≡ nextSpan img p
+  first-next lent = head32-is lent (first-in-head lent) (omega arith)
 
   pub others-linked : (q : ℕ) → q ≡ nextSpan img p → Linked img q
   others-linked q e =
@@ -61,13 +56,13 @@ module _ (img : List ℕ) (p z : ℕ) (s : Span) (others : List Span) (sp : Span
       subst (Linked img) (sym e) (record { passed = pages others; way = others-way; few = omega (arith, sp .few) })
 
 -- spans that were found are such spans
-span-inside : (scr : List ℕ) (n z p : ℕ) (ss : List Span) → length scr ≡ n → Fresh scr (gather pagesOf (map span (linkSpans z p ss)))
-    → Every (λ s. (1 ≤ s .page) × (1024 * s .page ≤ 64 * n)) ss
-span-inside scr n z p [] e f = tt
-span-inside scr n z p (s ∷ ss) e f =
+span-inside : (img scr : List ℕ) (z p : ℕ) (ss : List Span) → Room img scr → Fresh scr (gather pagesOf (map span (linkSpans z p ss)))
+    → Every (λ s. (1 ≤ s .page) × (1024 * s .page ≤ length img)) ss
+span-inside img scr z p [] room f = tt
+span-inside img scr z p (s ∷ ss) room f =
     let o : Open scr (s .page) = f .0 in (
-      (o .low, omega arith),
-      span-inside (claims scr (s .page ∷ s .conts)) n z (s .page) ss (length-claims scr (s .page ∷ s .conts) ∙ e)
+      (o .low, omega (arith, room .size, room .whole)),
+      span-inside img (claims scr (s .page ∷ s .conts)) z (s .page) ss (room-long (length-claims scr (s .page ∷ s .conts)) room)
           (fresh-right scr (s .page ∷ s .conts) (gather pagesOf (map span (linkSpans z (s .page) ss))) f),
     )
 
@@ -84,8 +79,8 @@ spans-found img scr out p z s others l f e =
     record {
       here = e;
       bears = f .bears;
-      inside = rw (l .size) (span-inside scr (length scr) z 0 (s ∷ others) refl (f .fresh));
-      few = omega (arith, l .size, span-few z 0 (s ∷ others), unclaimed-claims scr ns (f .fresh), unclaimed-most scr);
+      inside = span-inside img scr z 0 (s ∷ others) (l .room) (f .fresh);
+      few = omega (arith, l .room .size, l .room .whole, span-few z 0 (s ∷ others), unclaimed-claims scr ns (f .fresh), unclaimed-most scr);
     }
 
 -- ---- The same towers, on other spans on the same pages

@@ -7,8 +7,8 @@ use mathlib.Core.List.{List, [], _∷_}
 use lib.ListN.{length}
 use lib.Dec.{eqb}
 use borrow.Author.Tests.{eq-eqb, ne-eqb}
-use Rattle.heads.specs.Claims.{Lent, linkAt}
-use Rattle.heads.proofs.Claims.{link-is}
+use Rattle.heads.specs.Claims.{Lent, head32}
+use Rattle.heads.proofs.Claims.{in-head, head32-is}
 use Rattle.walks.specs.Found.{Decides}
 use Rattle.walks.proofs.Founds.{decides-true, decides-false}
 use Rattle.towers.specs.Climb.{nextSpan, Way, Linked, Reach}
@@ -16,11 +16,11 @@ use Rattle.towers.specs.Climb.{nextSpan, Way, Linked, Reach}
 -- how many spans there are from page p on, f at most, by the links of the heads
 unfoldable pub steps : (scr : List ℕ) (f p : ℕ) → ℕ
 steps scr zero p = 0
-steps scr (suc f) p = cond (eqb p 0) 0 (suc (steps scr f (linkAt scr p 12)))
+steps scr (suc f) p = cond (eqb p 0) 0 (suc (steps scr f (head32 scr p 12)))
 
 module _ {img scr : List ℕ} (lent : Lent img scr) where
-  pub next-is : (p : ℕ) → 1 ≤ p → 1024 * p ≤ length img → linkAt scr p 12 ≡ nextSpan img p
-  next-is p lo hi = link-is lent p lo (omega (arith, lent .size)) 12 (omega arith) (omega arith)
+  pub next-is : (p : ℕ) → 1 ≤ p → 1024 * p ≤ length img → head32 scr p 12 ≡ nextSpan img p
+  next-is p lo hi = head32-is lent (in-head lent lo hi (omega arith)) (omega arith)
 
   steps-way : (f : ℕ) (l : List ℕ) (p : ℕ) → Way img p 0 l → length l ≤ f → steps scr f p ≡ length l
   unfolding steps
@@ -42,7 +42,7 @@ way-unique img (x ∷ l) (y ∷ k) p (e, lo, hi, v) (d, lo′, hi′, w) =
 pub record Next (img scr : List ℕ) (p : ℕ) : Type 0 where
   pub low : 1 ≤ p
   pub high : 1024 * p ≤ length img
-  pub link : linkAt scr p 12 ≡ nextSpan img p
+  pub link : head32 scr p 12 ≡ nextSpan img p
   pub more : Linked img (nextSpan img p)
   pub fewer : steps scr (length scr) p ≡ suc (steps scr (length scr) (nextSpan img p))
 
@@ -54,7 +54,7 @@ module _ {img scr : List ℕ} (lent : Lent img scr) where
       go [] w h = absurd (z w)
       go (q ∷ l) (e, lo, hi, w) h =
           let v : Way img (nextSpan img p) 0 l = subst (λ (x : ℕ). Way img (nextSpan img x) 0 l) (sym e) w in
-          let f : suc (length l) ≤ length scr = omega (arith, lent .size) in
+          let f : suc (length l) ≤ length scr = omega (arith, lent .room .size, lent .room .whole) in
           record {
             low = omega arith;
             high = omega arith;
@@ -96,7 +96,7 @@ module _ {img scr : List ℕ} (lent : Lent img scr) (start target p : ℕ) (v : 
         let h : 1024 * target ≤ length img = subst (λ (x : ℕ). 1024 * x ≤ length img) e (n .high) in
         decides-true (v .to (record { passed = []; way = e; low = l; high = h }))
 
-    pub reaching-next : (p ≡ target → ⊥) → (m : ℕ) → m ≡ linkAt scr p 12 → Reaching img start target m
+    pub reaching-next : (p ≡ target → ⊥) → (m : ℕ) → m ≡ head32 scr p 12 → Reaching img start target m
     reaching-next ne m is =
         let n = next-span lent p (v .linked) z in
         rw (is, n .link) (record {

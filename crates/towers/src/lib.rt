@@ -5,15 +5,15 @@ ghost use mathlib.Core.List.{List};
 ghost use lib.ListN.{length};
 ghost use Rattle.blockfile.specs.Layout.{Span};
 ghost use Rattle.pages.specs.Places.{Inside};
-ghost use Rattle.heads.specs.Claims.{Lent};
+ghost use Rattle.heads.specs.Claims.{Lent, Kept};
 ghost use Rattle.walks.specs.Found.{Decides, FindsAt};
 ghost use Rattle.walks.specs.declared.Walked.the-variants.{Done};
 ghost use Rattle.towers.specs.Towers.{Spanned, HasSpans, TowersFound};
 ghost use Rattle.towers.specs.Climb.{Repeats, AllAre, Followed, Linked, HasWay, Reach, Tall, TowerFound, Placed, Climb, entryAt};
 use heads::claim::claim;
-use heads::claim::link;
+use heads::claim::head16;
+use heads::claim::head32;
 use pages::mark::TOWER;
-use pages::read::get16;
 use pages::read::get32;
 use pages::write::put_bytes;
 use walks::Walked;
@@ -71,7 +71,7 @@ fn reaches(scratch: &[u8], start: usize, target: usize) -> bool
         if span == target {
             return true;
         }
-        span = link(scratch, span, 12);
+        span = head32(scratch, span, 12);
     }
     false
 }
@@ -88,15 +88,15 @@ fn is_tall(low: usize, high: usize, max: usize, height: usize) -> bool
 }
 
 // Claims the tower on `page`, whose current height must be `low` to `high`; answers that height.
-fn claim_tower(image: &[u8], scratch: &mut [u8], page: usize, low: usize, high: usize) -> Walked
-    requires { ⌜ Lent (now image) (now scratch) ⌝ }
-    ensures { λ r. ⌜ FindsAt Done (TowerFound (now (image .entry)) (now (scratch .entry)) low high page) r (now (scratch .exit)) ⌝ }
+fn claim_tower(scratch: &mut [u8], page: usize, low: usize, high: usize) -> Walked
+    requires { ⌜ Kept (now scratch) ⌝ }
+    ensures { λ r. ⌜ ((img : List ℕ) → Lent img (now (scratch .entry)) → FindsAt Done (TowerFound img (now (scratch .entry)) low high page) r (now (scratch .exit))) ⌝ }
 {
     if !claim(scratch, page, TOWER) {
         return Walked::Refused;
     }
-    let height = get16(image, page, 10);
-    if !is_tall(low, high, get16(image, page, 8), height) {
+    let height = head16(scratch, page, 10);
+    if !is_tall(low, high, head16(scratch, page, 8), height) {
         return Walked::Refused;
     }
     Walked::Done(height)
@@ -104,21 +104,15 @@ fn claim_tower(image: &[u8], scratch: &mut [u8], page: usize, low: usize, high: 
 
 // Claims the tower on `page`, which must stand on one of the spans from `start` on and be expected at each of its levels;
 // answers its height.
-fn place_tower(
-    image: &[u8],
-    scratch: &mut [u8],
-    levels: &[u8],
-    start: usize,
-    page: usize,
-    top: usize,
-) -> Walked
-    requires { ⌜ (top ≤ 252) × (length (now levels) ≡ 1024) × Lent (now image) (now scratch) × Linked (now image) start ⌝ }
-    ensures { λ r. ⌜ FindsAt Done (Placed (now (image .entry)) (now (scratch .entry)) top (now (levels .entry)) start page) r (now (scratch .exit)) ⌝ }
+fn place_tower(scratch: &mut [u8], levels: &[u8], start: usize, page: usize, top: usize) -> Walked
+    requires { ⌜ (top ≤ 252) × (length (now levels) ≡ 1024) × HasWay (now scratch) start ⌝ }
+    ensures { λ r. ⌜ ((img : List ℕ) → Lent img (now (scratch .entry)) → Linked img start
+        → FindsAt Done (Placed img (now (scratch .entry)) top (now (levels .entry)) start page) r (now (scratch .exit))) ⌝ }
 {
-    let Walked::Done(height) = claim_tower(image, scratch, page, 1, top) else {
+    let Walked::Done(height) = claim_tower(scratch, page, 1, top) else {
         return Walked::Refused;
     };
-    let span = get32(image, page, 12);
+    let span = head32(scratch, page, 12);
     if !reaches(scratch, start, span) {
         return Walked::Refused;
     }
@@ -130,7 +124,7 @@ fn place_tower(
 
 // Claims the towers of the spans from `start` on, where the first `top` entries of the head lead to them; answers their
 // number and 1, for the head. Each turn claims a tower, and each span is passed once in all. With `top` 0 no tower is
-// expected, and there is none. The next tower is read from this one's page and not from the levels, which takes less long.
+// expected, and there is none. The next tower is read from this one's head and not from the levels, which takes less long.
 fn claim_others(image: &[u8], scratch: &mut [u8], head: usize, top: usize, start: usize) -> Walked
     requires { ⌜ Lent (now image) (now scratch) × Inside (now image) head 16 (4 * top) × Linked (now image) start ⌝ }
     ensures { λ r. ⌜ FindsAt Done (Climb (now (image .entry)) (now (scratch .entry)) top start (entryAt (now (image .entry)) head) 1) r (now (scratch .exit)) ⌝ }
@@ -141,14 +135,14 @@ fn claim_others(image: &[u8], scratch: &mut [u8], head: usize, top: usize, start
     let mut count = 1;
     let mut page = get32(&levels, 1, 16);
     while page != 0 {
-        let Walked::Done(height) = place_tower(image, scratch, &levels, next, page, top) else {
+        let Walked::Done(height) = place_tower(scratch, &levels, next, page, top) else {
             return Walked::Refused;
         };
         follow(image, &mut levels, page, height);
-        let span = get32(image, page, 12);
-        next = link(scratch, span, 12);
+        let span = head32(scratch, page, 12);
+        next = head32(scratch, span, 12);
         count += 1;
-        page = get32(image, page, 16);
+        page = head32(scratch, page, 16);
     }
     if !all_are(&levels, top, 0) {
         return Walked::Refused;
@@ -163,12 +157,12 @@ pub fn verify_towers(image: &[u8], scratch: &mut [u8], head: usize, first: usize
     ensures { λ r. ⌜ ((z : ℕ) (s : Span) (others : List Span) → Spanned (now (image .entry)) first z s others
         → FindsAt Done (TowersFound (now (image .entry)) (now (scratch .entry)) head s others) r (now (scratch .exit))) ⌝ }
 {
-    let Walked::Done(top) = claim_tower(image, scratch, head, 0, 252) else {
+    let Walked::Done(top) = claim_tower(scratch, head, 0, 252) else {
         return Walked::Refused;
     };
-    if get32(image, head, 12) != first {
+    if head32(scratch, head, 12) != first {
         return Walked::Refused;
     }
-    let start = link(scratch, first, 12);
+    let start = head32(scratch, first, 12);
     claim_others(image, scratch, head, top, start)
 }

@@ -15,7 +15,8 @@ use Rattle.blockfile.specs.Order.{Within, within, allWithin, KeyRule, nameRule,
 use Rattle.blockfile.specs.WellFormed.{Piece, superblock, pagesOf, Bears, TableOk, tablePieces, freePieces, firstBlock, pieces, WellFormed}
 use Rattle.blockfile.proofs.Bools.{holds, and-both, both-and, within-is}
 use Rattle.blockfile.proofs.Every.{every-so}
-use Rattle.heads.specs.Claims.{pagesIn, Lent, Headed, full}
+use Rattle.heads.specs.Claims.{pagesIn, Room, Lent, Headed, full}
+use Rattle.heads.proofs.Claims.{room-long}
 use Rattle.walks.specs.declared.Walked.{Walked}
 use Rattle.walks.specs.declared.Walked.the-variants.{Refused, Done}
 use Rattle.walks.specs.Found.{claims, Fresh, Found, FindsAt}
@@ -410,33 +411,33 @@ module _ (img : List ℕ) (p : ℕ) (size : length img ≡ 1024 * p) (range : Wi
 
 -- ---- The metaindex that was found, to be read
 
-borne-found : (img scr : List ℕ) (ps : List Piece) → length img ≡ 64 * length scr → Every (Bears (pg img)) ps → Fresh scr (gather pagesOf ps) → Every (Borne img) ps
-borne-found img scr [] size b f = tt
-borne-found img scr (x ∷ ps) size b f = (
-  (b .0, inside-fresh img scr (pagesOf x) size (fresh-left scr (pagesOf x) (gather pagesOf ps) f)),
-  borne-found img (claims scr (pagesOf x)) ps (size ∙ ap (λ (n : ℕ). 64 * n) (sym (length-claims scr (pagesOf x)))) (b .1) (fresh-right scr (pagesOf x) (gather pagesOf ps) f),
+borne-found : (img scr : List ℕ) (ps : List Piece) → Room img scr → Every (Bears (pg img)) ps → Fresh scr (gather pagesOf ps) → Every (Borne img) ps
+borne-found img scr [] room b f = tt
+borne-found img scr (x ∷ ps) room b f = (
+  (b .0, inside-fresh img scr (pagesOf x) room (fresh-left scr (pagesOf x) (gather pagesOf ps) f)),
+  borne-found img (claims scr (pagesOf x)) ps (room-long (length-claims scr (pagesOf x)) room) (b .1) (fresh-right scr (pagesOf x) (gather pagesOf ps) f),
 )
 
 meta-on : (img scr : List ℕ) (m : ℕ) (mid : List ℕ) → Lent img scr → (x : MetaFound img scr m mid) → MetaOn img (x .table)
 meta-on img scr m mid lent x =
     record {
-      small = omega (arith, lent .size, lent .most);
+      small = omega (arith, lent .room .size, lent .room .most);
       page = x .named;
       ok = x .ok;
-      borne = borne-found img scr (tablePieces (x .table)) (lent .size) (x .found .bears) (x .found .fresh);
+      borne = borne-found img scr (tablePieces (x .table)) (lent .room) (x .found .bears) (x .found .fresh);
     }
 
 -- ---- The verdict at each stage
 
 module _ (img scr : List ℕ) (headed : Headed img scr) (enough : 4096 ≤ length img) where
   size : length img ≡ 1024 * pagesIn scr
-  size = let l = headed .lent in omega (arith, l .size, l .whole)
+  size = headed .lent .room .size
 
   range : Within 4 4096 (pagesIn scr)
-  range = let l = headed .lent in (omega (arith, l .size, enough), omega (arith, l .most))
+  range = let room = headed .lent .room in (omega (arith, room .size, enough), room .most)
 
   all-open : AllOpen (pagesIn scr) scr
-  all-open = record { long = omega (arith, headed .lent .whole); free = headed .unclaimed }
+  all-open = record { long = headed .lent .room .whole; free = headed .unclaimed }
 
   bad : ((c : Counts) (out : List ℕ) → Whole img scr c out → full out ≡ true → ⊥) → Judged img Bad
   bad = verdict-bad img (pagesIn scr) size range scr all-open

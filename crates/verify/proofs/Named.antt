@@ -140,7 +140,7 @@ module _ (img scr : List ℕ) (lent : Lent img scr) (e : Entry) (es : List Entry
   part m out (t ∷ ts) a q ok f k =
       let o : Open scr (t .value .root) = f .fresh .0 in
       let h : e ≡ listing t = head-eq-of-cons-eq q in
-      let is : t .value .root ≡ root = word-injective (t .value .root) root (omega (arith, o .high, lent .most)) small (ap (λ (x : Entry). x .value) (sym h) ∙ word) in
+      let is : t .value .root ≡ root = word-injective (t .value .root) root (omega (arith, o .high, lent .room .whole, lent .room .most)) small (ap (λ (x : Entry). x .value) (sym h) ∙ word) in
       let good : TableOk (keyRule []) (t .value) = subst (λ r. TableOk r (t .value)) (rule-same (t .key)) (ok .0) in
       record {
         keys = length (entriesOf (t .value));

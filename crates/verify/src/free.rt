@@ -7,7 +7,7 @@ ghost use Rattle.walks.specs.Found.{FindsAt};
 ghost use Rattle.walks.specs.declared.Walked.the-variants.{Done};
 ghost use Rattle.verify.specs.Free.{ListedFound, BlockFound, FreeFound};
 use heads::claim::claim;
-use heads::claim::link;
+use heads::claim::head32;
 use pages::mark::BLOCK;
 use pages::mark::FREE;
 use pages::read::get32;
@@ -37,7 +37,7 @@ fn claim_block(image: &[u8], scratch: &mut [u8], page: usize) -> Walked
     if !claim(scratch, page, BLOCK) {
         return Walked::Refused;
     }
-    let count = link(scratch, page, 12);
+    let count = head32(scratch, page, 12);
     if 252 < count {
         return Walked::Refused;
     }
@@ -59,7 +59,7 @@ pub fn verify_free(image: &[u8], scratch: &mut [u8], start: usize) -> Walked
             return Walked::Refused;
         };
         free += n;
-        page = link(scratch, page, 8);
+        page = head32(scratch, page, 8);
     }
     Walked::Done(free)
 }

@@ -49,9 +49,9 @@ fresh-right scr [] ms f = f
 fresh-right scr (n ∷ ns) ms f = fresh-right (claimed scr n) ns ms (f .1)
 
 -- claims keep the heads
-pub lent-claims : {img scr : List ℕ} (ns : List ℕ) → Lent img scr → Lent img (claims scr ns)
-lent-claims [] l = l
-lent-claims (n ∷ ns) l = lent-claims ns (lent-claimed n l)
+pub lent-claims : {img scr : List ℕ} (ns : List ℕ) → Fresh scr ns → Lent img scr → Lent img (claims scr ns)
+lent-claims [] f l = l
+lent-claims (n ∷ ns) f l = lent-claims ns (f .1) (lent-claimed n (f .0 .low) (f .0 .high) l)
 
 -- a claim leaves one page fewer unclaimed
 unclaimed-same : (scr : List ℕ) (i p : ℕ) → p ≤ i → unclaimedTo (set scr (16 * i) 0) p ≡ unclaimedTo scr p
@@ -77,8 +77,8 @@ unclaimed-set scr i (suc p) h l e =
 pub unclaimed-claimed : (scr : List ℕ) (n : ℕ) → Open scr n → unclaimed scr ≡ suc (unclaimed (claimed scr n))
 unfolding claimed
 unclaimed-claimed scr n o =
-    unclaimed-set scr (n - 1) (length scr / 16) (omega (arith, o .low, o .high)) (omega (arith, o .low, o .high)) (o .free)
-    ∙ ap (λ (p : ℕ). suc (unclaimedTo (set scr (16 * (n - 1)) 0) (p / 16))) (sym (length-set scr (16 * (n - 1)) 0))
+    unclaimed-set scr (n - 1) (length scr / 20) (omega (arith, o .low, o .high)) (omega (arith, o .low, o .high)) (o .free)
+    ∙ ap (λ (p : ℕ). suc (unclaimedTo (set scr (16 * (n - 1)) 0) (p / 20))) (sym (length-set scr (16 * (n - 1)) 0))
 
 pub unclaimed-claims : (scr ns : List ℕ) → Fresh scr ns → unclaimed scr ≡ length ns + unclaimed (claims scr ns)
 unclaimed-claims scr [] f = omega arith
@@ -92,25 +92,25 @@ unclaimed-below scr (suc p) = go (eqb (getD scr (16 * p) 0) 0) (unclaimed-below 
     go true h = omega arith
     go false h = omega arith
 
-pub unclaimed-most : (scr : List ℕ) → 16 * unclaimed scr ≤ length scr
-unclaimed-most scr = let h : unclaimed scr ≤ length scr / 16 = unclaimed-below scr (length scr / 16) in omega (arith, h)
+pub unclaimed-most : (scr : List ℕ) → 20 * unclaimed scr ≤ length scr
+unclaimed-most scr = let h : unclaimed scr ≤ length scr / 20 = unclaimed-below scr (length scr / 20) in omega (arith, h)
 
 -- ---- A page that can be claimed as a kind is open and begins with the kind's mark
 
 pub claimable-open : (img scr : List ℕ) (n k : ℕ) → claimable img scr n k ≡ true → Open scr n × (begins (getD marks k []) (pg img n) ≡ true)
 unfolding claimable
 claimable-open img scr n k e =
-    let a : T (leb 1 n && leb (16 * n) (length scr)) × T (not (eqb (getD scr (16 * (n - 1)) 0) 0) && begins (getD marks k []) (pg img n))
-    = and-both (leb 1 n && leb (16 * n) (length scr)) _ (holds _ e) in
-    let b : T (leb 1 n) × T (leb (16 * n) (length scr)) = and-both (leb 1 n) _ (a .0) in
+    let a : T (leb 1 n && leb (20 * n) (length scr)) × T (not (eqb (getD scr (16 * (n - 1)) 0) 0) && begins (getD marks k []) (pg img n))
+    = and-both (leb 1 n && leb (20 * n) (length scr)) _ (holds _ e) in
+    let b : T (leb 1 n) × T (leb (20 * n) (length scr)) = and-both (leb 1 n) _ (a .0) in
     let c : T (not (eqb (getD scr (16 * (n - 1)) 0) 0)) × T (begins (getD marks k []) (pg img n)) = and-both (not (eqb (getD scr (16 * (n - 1)) 0) 0)) _ (a .1) in
-    (record { low = leb→le 1 n (b .0); high = leb→le (16 * n) (length scr) (b .1); free = λ z. rw (eq-eqb (getD scr (16 * (n - 1)) 0) 0 z) at (c .0) }, so _ (c .1))
+    (record { low = leb→le 1 n (b .0); high = leb→le (20 * n) (length scr) (b .1); free = λ z. rw (eq-eqb (getD scr (16 * (n - 1)) 0) 0 z) at (c .0) }, so _ (c .1))
 
 pub open-claimable : (img scr : List ℕ) (n k : ℕ) → Open scr n → begins (getD marks k []) (pg img n) ≡ true → claimable img scr n k ≡ true
 unfolding claimable
 open-claimable img scr n k o e =
     let a : leb 1 n ≡ true = le-leb 1 n (o .low) in
-    let b : leb (16 * n) (length scr) ≡ true = le-leb (16 * n) (length scr) (o .high) in
+    let b : leb (20 * n) (length scr) ≡ true = le-leb (20 * n) (length scr) (o .high) in
     let c : eqb (getD scr (16 * (n - 1)) 0) 0 ≡ false = ne-eqb (getD scr (16 * (n - 1)) 0) 0 (o .free) in
     rw (a, b, c) e
 
@@ -145,7 +145,7 @@ module _ (img scr : List ℕ) (ps qs : List Piece) where
       }
 
 pub found-lent : {img scr : List ℕ} {ps : List Piece} {out : List ℕ} → Lent img scr → Found img scr ps out → Lent img out
-found-lent {img} {ps = ps} lent f = subst (Lent img) (sym (f .left)) (lent-claims (gather pagesOf ps) lent)
+found-lent {img} {ps = ps} lent f = subst (Lent img) (sym (f .left)) (lent-claims (gather pagesOf ps) (f .fresh) lent)
 
 -- ---- Answers
 

@@ -89,8 +89,8 @@ claims-in scr (m ∷ ns) n f h =
 
 -- a scratch of p pages, none of them claimed
 pub record AllOpen (p : ℕ) (scr : List ℕ) : Type 0 where
-  pub long : length scr ≡ 16 * p
-  pub free : (j : ℕ) → 16 * j < length scr → getD scr (16 * j) 0 ≡ 0 → ⊥
+  pub long : length scr ≡ 20 * p
+  pub free : (j : ℕ) → 20 * j < length scr → getD scr (16 * j) 0 ≡ 0 → ⊥
 
 module _ (p : ℕ) (scr : List ℕ) (none : AllOpen p scr) (ns : List ℕ) where
   inside : (n : ℕ) → Within 1 p n → _≡_ {A = ℕ} (cond (within 1 p n) 1 0) 1
@@ -114,7 +114,7 @@ module _ (p : ℕ) (scr : List ℕ) (none : AllOpen p scr) (ns : List ℕ) where
       at : (i : ℕ) → suc i - 1 ≡ i
       at i = omega arith
 
-      here : (i : ℕ) → 16 * i + 16 ≤ length (claims scr ns) → 1 ≤ count (suc i) ns
+      here : (i : ℕ) → 20 * i + 20 ≤ length (claims scr ns) → 1 ≤ count (suc i) ns
       here i l = omega (arith, h (suc i), inside (suc i) (omega (arith, length-claims scr ns, none .long)))
 
       counted : (n : ℕ) → 1 ≤ count n ns → Within 1 p n

@@ -1,17 +1,17 @@
 -- A claim of one page: the piece that owns it, and what can be read then.
-use Prim.Native.Nat.{ℕ, suc, _+_, _≤_}
+use Prim.Native.Nat.{ℕ, suc, _+_, _*_, _/_, _≤_}
 use native.Mathlib.Omega.{arith}
 use mathlib.Core.Path.{_≡_, ap, sym, _∙_, subst}
 use mathlib.Core.Bool.{Bool, true, false}
 use mathlib.Core.List.{List, [], _∷_, _++_}
 use lib.ListN.{length, getD}
-use Rattle.blockfile.specs.Bytes.{pg, be32, gather}
+use Rattle.blockfile.specs.Bytes.{pg, be16, be32, gather}
 use Rattle.blockfile.specs.Marks.{marks}
 use Rattle.blockfile.specs.WellFormed.{Piece, pagesOf, Bears}
 use Rattle.pages.specs.Places.{Inside, Number}
 use Rattle.heads.specs.Begins.{begins}
-use Rattle.heads.specs.Claims.{Lent, Linking, Claimed, claimable, claimed, linkAt}
-use Rattle.heads.proofs.Claims.{lent-claimed, link-read}
+use Rattle.heads.specs.Claims.{Lent, InHead, Claimed, claimable, claimed, head16, head32}
+use Rattle.heads.proofs.Claims.{lent-claimed, in-head, head16-read, head32-read}
 use Rattle.walks.specs.Found.{Open, Fresh, claims, unclaimed, Found}
 use Rattle.walks.proofs.Founds.{length-claimed, unclaimed-claimed, claimable-open, open-claimable}
 
@@ -70,16 +70,20 @@ module _ {img scr : List ℕ} {n k : ℕ} {r : Bool} {out : List ℕ} (c : Claim
 
   module _ (lent : Lent img scr) where
     pub claim-lent : Lent img out
-    claim-lent = subst (Lent img) (sym claim-left) (lent-claimed n lent)
+    claim-lent = subst (Lent img) (sym claim-left) (lent-claimed n (claim-open .low) (claim-open .high) lent)
 
-    -- the page can be read, and its links from its head
+    -- the page can be read, and what its head has of it from there
     pub claim-inside : {o w : ℕ} → o + w ≤ 1024 → Inside img n o w
     claim-inside fits =
-        record { small = omega (arith, lent .size, lent .most); low = claim-open .low; high = omega (arith, lent .size, claim-open .high); fits = fits }
+        let room = lent .room in
+        record { small = omega (arith, room .size, room .most); low = claim-open .low; high = omega (arith, room .size, room .whole, claim-open .high); fits = fits }
 
-    module _ {o : ℕ} (some : 1 ≤ o) (fits : o + 4 ≤ 16) where
-      pub claim-linking : Linking out n o
-      claim-linking = record { small = claim-lent .most; low = claim-open .low; high = omega (arith, claim-open .high, claim-length); fits = fits }
+    pub claim-in-head : {o w : ℕ} → o + w ≤ 16 + 4 * (o / 16) → InHead out n o w
+    claim-in-head fits = in-head claim-lent (claim-open .low) (claim-inside {o = 0} {w = 0} (omega arith) .high) fits
 
-      pub claim-link : {top v : ℕ} → Number (linkAt out n o) top v → Number (be32 (pg img n) o) top v
-      claim-link x = link-read claim-lent n (claim-linking .low) (claim-linking .high) o some fits x
+    module _ {o : ℕ} (some : 1 ≤ o) {top v : ℕ} where
+      pub claim-head16 : o + 2 ≤ 16 + 4 * (o / 16) → Number (head16 out n o) top v → Number (be16 (pg img n) o) top v
+      claim-head16 fits x = head16-read claim-lent (claim-in-head fits) some x
+
+      pub claim-head32 : o + 4 ≤ 16 + 4 * (o / 16) → Number (head32 out n o) top v → Number (be32 (pg img n) o) top v
+      claim-head32 fits x = head32-read claim-lent (claim-in-head fits) some x

@@ -12,7 +12,7 @@ use Rattle.heads.specs.Claims.{pagesIn, claimed}
 -- page n is one of the pages, and not claimed
 pub record Open (scr : List ℕ) (n : ℕ) : Type 0 where
   pub low : 1 ≤ n
-  pub high : 16 * n ≤ length scr
+  pub high : 20 * n ≤ length scr
   pub free : getD scr (16 * (n - 1)) 0 ≡ 0 → ⊥
 
 -- each of the pages can be claimed, one after another; and the scratch then

@@ -59,15 +59,19 @@ fell c =
 add-keys : tie.Need-add-keys Inv-loop μ-loop
 add-keys c =
     let v = c .before .before .before .before .before .before .before .before in
+    let s = v .before .before .before .before .before .before .before in
     let l = v .before .before .before .loop .inv .0 in
     let f = fell c in
-    omega (arith, f .few, l .small, l .few, unclaimed-most (now (v .before .before .before .before .before .before .before .args .scratch)), v .before .before .before .before .before .before .before .pre .0 .most)
+    let room = s .pre .0 .room in
+    omega (arith, f .few, l .small, l .few, unclaimed-most (now (s .args .scratch)), room .whole, room .most)
 
 add-spans : tie.Need-add-spans Inv-loop μ-loop
 add-spans c =
     let v = c .before .before .before .before .before .before .before .before in
+    let s = v .before .before .before .before .before .before .before in
     let l = v .before .before .before .loop .inv .0 in
-    omega (arith, l .few, unclaimed-most (now (v .before .before .before .before .before .before .before .args .scratch)), v .before .before .before .before .before .before .before .pre .0 .most)
+    let room = s .pre .0 .room in
+    omega (arith, l .few, unclaimed-most (now (s .args .scratch)), room .whole, room .most)
 
 returns-3 : tie.Need-returns-3 Inv-loop μ-loop
 returns-3 c =

@@ -5,11 +5,14 @@ use mathlib.Core.Path.{_≡_, refl, sym, _∙_}
 use native.Mathlib.Omega.{arith}
 use borrow.Author.Needs.{needs}
 use borrow.Author.Tests.{not-true, not-false}
+use denote.Ref.{now}
 use lib.ListN.{length}
 use Rattle.blockfile.specs.Bytes.{be16, be32}
 use Rattle.pages.specs.Places.{Inside}
+use Rattle.heads.proofs.Claims.{in-head, head32-read}
 use Rattle.walks.specs.Found.{unclaimed}
 use Rattle.walks.proofs.Founds.{unclaimed-most}
+use Rattle.towers.specs.Climb.{spanUnder}
 use Rattle.towers.proofs.Climbs.{Climbing, climbing-start, climbing-open, climbing-end, climbing-no, Turn, climbing-turn, climbing-next}
 use Rattle.towers.proofs.claim_others.Statement.{statement}
 use Rattle.towers.proofs.claim_others.Tie as tie
@@ -36,56 +39,68 @@ loop-holds c =
     climbing-start _ _ _ _ _ _ _ (s .pre .0) (s .pre .2) refl refl (f .follow .ensures) _ (c .get32 .ensures .is)
 
 place-tower-requires : tie.Need-place-tower-requires Inv-loop μ-loop
-place-tower-requires c κs = (omega arith, omega arith, c .before .before .before .loop .inv .lent, c .before .before .before .loop .inv .linked)
+place-tower-requires c κs = let inv = c .before .before .before .loop .inv in (omega arith, omega arith, record { image = _; lent = inv .lent; linked = inv .linked })
 
 returns : tie.Need-returns Inv-loop μ-loop
 returns c =
     let placed = c .before .before .before .before in
     let in-loop = placed .before .before .before in
-    climbing-no _ _ _ _ _ _ _ _ _ _ (in-loop .before .loop .inv) (in-loop .loop-test .taken) _ _ (placed .place-tower .ensures) (c .enum-told .given .1)
+    let inv = in-loop .before .loop .inv in
+    climbing-no _ _ _ _ _ _ _ _ _ _ inv (in-loop .loop-test .taken) _ _ (placed .place-tower .ensures _ (inv .lent) (inv .linked)) (c .enum-told .given .1)
 
 -- a turn that goes on
 turn : (c : tie.After-known-told Inv-loop μ-loop)
     → let a = c .before .before .before .before .before .before .before .before .before .before .before .before .before .before .before .before .before .args in
     let l = c .before .before .before .before .before .before .before .before .before .loop in
-    Turn (a .image .now) (l .scratch) (a .top) (l .page) (c .before .height .given .0 .0) (c .before .before .before .before .before .place-tower .last .1 .0)
+    Turn (a .image .now) (l .scratch) (a .top) (l .page) (c .before .height .given .0 .0) (c .before .before .before .before .before .place-tower .last .0)
 turn c =
     let placed = c .before .before .before .before .before in
     let in-loop = placed .before .before .before in
-    climbing-turn _ _ _ _ _ _ _ _ _ _ (in-loop .before .loop .inv) (in-loop .loop-test .taken) _ _ (placed .place-tower .ensures) _ (c .before .height .given .1)
+    let inv = in-loop .before .loop .inv in
+    climbing-turn _ _ _ _ _ _ _ _ _ _ inv (in-loop .loop-test .taken) _ _ (placed .place-tower .ensures _ (inv .lent) (inv .linked)) _ (c .before .height .given .1)
 
 follow-requires-2 : tie.Need-follow-requires-2 Inv-loop μ-loop
 follow-requires-2 c κs =
     let t = turn (c .before) in
-    (record { small = omega arith; low = omega arith; high = omega arith; fits = omega arith }, omega arith)
+    (record { small = omega arith; low = t .low; high = t .high; fits = omega arith }, omega arith)
 
-get32-requires-2 : tie.Need-get32-requires-2 Inv-loop μ-loop
-get32-requires-2 c κs = let t = turn (c .before .before .before) in record { small = omega arith; low = omega arith; high = omega arith; fits = omega arith }
+head32-requires : tie.Need-head32-requires Inv-loop μ-loop
+head32-requires c κs = let t = turn (c .before .before .before .before) in in-head (t .lent) (t .low) (t .high) (omega arith)
 
-link-requires : tie.Need-link-requires Inv-loop μ-loop
-link-requires c κs =
+-- the span that the tower names
+span-is : (c : tie.After-head32 Inv-loop μ-loop)
+    → let k = c .before .before .before .before .before in
+    let a = k .before .before .before .before .before .before .before .before .before .before .before .before .before .before .before .before .before .args in
+    c .head32 .result ≡ spanUnder (now (a .image)) (k .before .before .before .before .before .before .before .before .before .loop .page)
+span-is c =
     let t = turn (c .before .before .before .before .before) in
-    record { small = t .lent .most; low = omega arith; high = omega (arith, t .lent .size); fits = omega arith }
+    head32-read (t .lent) (in-head (t .lent) (t .low) (t .high) (omega arith)) (omega arith) (c .head32 .ensures) .is
 
-get32-requires-3 : tie.Need-get32-requires-3 Inv-loop μ-loop
-get32-requires-3 c κs =
+head32-requires-2 : tie.Need-head32-requires-2 Inv-loop μ-loop
+head32-requires-2 c κs =
     let t = turn (c .before .before .before .before .before .before) in
-    record { small = omega arith; low = t .page .low; high = omega (arith, t .page .high); fits = omega arith }
+    rw (span-is (c .before)) (in-head (t .lent) (t .spanLow) (t .spanHigh) (omega arith))
 
 add-count : tie.Need-add-count Inv-loop μ-loop
 add-count c =
-    let k = c .before .before .before .before .before .before in
+    let k = c .before .before .before .before .before .before .before in
     let s = k .before .before .before .before .before .before .before .before .before .before .before .before .before .before .before .before .before in
-    omega (arith, turn k .falls, unclaimed-most (s .args .scratch .now), s .pre .0 .most)
+    omega (arith, turn k .falls, unclaimed-most (s .args .scratch .now), s .pre .0 .room .whole, s .pre .0 .room .most)
+
+head32-requires-3 : tie.Need-head32-requires-3 Inv-loop μ-loop
+head32-requires-3 c κs = let t = turn (c .before .before .before .before .before .before .before .before) in in-head (t .lent) (t .low) (t .high) (omega arith)
 
 loop-again : tie.Need-loop-again Inv-loop μ-loop
 loop-again c =
-    let g = c .before in
-    let k = g .before .before .before .before .before .before in
+    let g = c .before .before in
+    let k = g .before .before .before .before .before .before .before in
     let placed = k .before .before .before .before .before in
     let in-loop = placed .before .before .before in
-    climbing-next _ _ _ _ _ _ _ _ _ _ (in-loop .before .loop .inv) (in-loop .loop-test .taken) _ _ (placed .place-tower .ensures) _ (k .before .height .given .1)
-    _ (g .before .before .before .before .follow2 .ensures) _ _ (g .before .before .get322 .ensures .is) (g .link .ensures .is) _ (c .get323 .ensures .is)
+    let inv = in-loop .before .loop .inv in
+    let t = turn k in
+    climbing-next _ _ _ _ _ _ _ _ _ _ inv (in-loop .loop-test .taken) _ _ (placed .place-tower .ensures _ (inv .lent) (inv .linked)) _ (k .before .height .given .1)
+    _ (g .before .before .before .before .before .follow2 .ensures) _ _ (span-is (g .before .before)) (g .head322 .ensures .is)
+    _ (head32-read (t .lent) (in-head (t .lent) (t .low) (t .high) (omega arith)) (omega arith) (c .head323 .ensures) .is)
 
 returns-2 : tie.Need-returns-2 Inv-loop μ-loop
 returns-2 c =
@@ -96,12 +111,6 @@ returns-3 : tie.Need-returns-3 Inv-loop μ-loop
 returns-3 c =
     let done = c .before .before .before in
     climbing-end _ _ _ _ _ _ _ _ _ _ (done .before .loop .inv) (done .loop-test .left) _ (c .before .all-are .ensures) (not-false _ (c .if1 .left))
-
--- the levels that follow a tower are as wide
-wide-next : (c : tie.After-follow2 Inv-loop μ-loop) → length (c .follow2 .last .1 .0) ≡ 1024
-wide-next c =
-    let placed = c .before .before .before .before .before .before .before in
-    c .follow2 .ensures .long ∙ placed .before .before .before .before .loop .inv .wide
 
 pub claim-others-spec : {M : Type 1} → statement M
 claim-others-spec =
@@ -118,15 +127,15 @@ claim-others-spec =
     place-tower-requires
     (λ c. search needs)
     (λ c. search needs)
-    (λ c. c .before .before .before .before .place-tower .kept .1 .0 ∙ c .before .before .before .before .before .before .before .before .loop .inv .long)
+    (λ c. c .before .before .before .before .place-tower .kept .0 ∙ c .before .before .before .before .before .before .before .before .loop .inv .long)
     returns
     (λ c. sym (c .before .before .before .before .before .before .before .before .before .before .loop .inv .wide))
     follow-requires-2
-    get32-requires-2
-    link-requires
+    head32-requires
+    head32-requires-2
     add-count
-    get32-requires-3
-    (λ c. omega (arith, turn (c .before .before .before .before .before .before .before) .falls))
+    head32-requires-3
+    (λ c. omega (arith, turn (c .before .before .before .before .before .before .before .before .before) .falls))
     loop-again
     (λ c. sym (c .before .before .loop .inv .wide))
     (λ c κs. omega arith)

@@ -5,6 +5,7 @@ use mathlib.Core.List.{List}
 use Prim.Native.Nat.{ℕ}
 use lib.ListN.{length}
 use Rattle.heads.specs.Claims.{Lent}
+use Rattle.heads.proofs.Claims.{in-head}
 use Rattle.towers.specs.Climb.{Linked}
 use Rattle.towers.proofs.Ways.{steps, Next, next-span, Reaching, reaching-start, reaching-end, reaching-here, reaching-next}
 use Rattle.towers.proofs.reaches.Statement.{statement}
@@ -25,19 +26,19 @@ next-of c =
 returns : tie.Need-returns Inv-loop μ-loop
 returns c img lent k = reaching-here lent _ _ _ (c .before .before .loop .inv img lent k) (c .before .loop-test .taken) (c .if1 .taken)
 
-link-requires : tie.Need-link-requires Inv-loop μ-loop
-link-requires c κs =
+head32-requires : tie.Need-head32-requires Inv-loop μ-loop
+head32-requires c κs =
     let n = next-of (c .before) in
     let l = c .before .before .before .before .pre .lent in
-    record { small = l .most; low = n .low; high = omega (arith, n .high, l .size); fits = omega arith }
+    in-head l (n .low) (n .high) (omega arith)
 
 loop-less : tie.Need-loop-less Inv-loop μ-loop
-loop-less c = let n = next-of (c .before .before) in rw (c .link .ensures .is, n .link) (omega (arith, n .fewer))
+loop-less c = let n = next-of (c .before .before) in rw (c .head32 .ensures .is, n .link) (omega (arith, n .fewer))
 
 loop-again : tie.Need-loop-again Inv-loop μ-loop
 loop-again c img lent k =
     let l = c .before .before in
-    reaching-next lent _ _ _ (l .before .loop .inv img lent k) (l .loop-test .taken) (c .before .if1 .left) _ (c .link .ensures .is)
+    reaching-next lent _ _ _ (l .before .loop .inv img lent k) (l .loop-test .taken) (c .before .if1 .left) _ (c .head32 .ensures .is)
 
 pub reaches-spec : {M : Type 1} → statement M
 reaches-spec =
@@ -47,7 +48,7 @@ reaches-spec =
     μ-loop
     (λ c img lent k. reaching-start _ _ _ k)
     returns
-    link-requires
+    head32-requires
     loop-less
     loop-again
     (λ c img lent k. reaching-end lent _ _ _ (c .before .loop .inv img lent k) (c .loop-test .left)))

@@ -12,7 +12,7 @@ use Rattle.heads.proofs.claim.all_claimed.Statement.{statement}
 use Rattle.heads.proofs.claim.all_claimed.Tie as tie
 
 abbrev Inv-loop : tie.InvT-loop
-Inv-loop scratch pages all₀ i₀ all i = (i ≤ pages) × (pages ≡ length scratch / 16) × (all ≡ fullTo scratch i)
+Inv-loop scratch pages all₀ i₀ all i = (i ≤ pages) × (pages ≡ length scratch / 20) × (all ≡ fullTo scratch i)
 
 abbrev μ-loop : tie.MeasureT-loop
 μ-loop scratch pages all₀ i₀ all i = pages - i

@@ -8,7 +8,7 @@ use Rattle.heads.proofs.claim.copy_heads.Statement.{statement}
 use Rattle.heads.proofs.claim.copy_heads.Tie as tie
 
 abbrev Inv-loop : tie.InvT-loop
-Inv-loop image scratch₀ pages index₀ scratch index = (pages ≡ length scratch₀ / 16) × Heading image scratch₀ scratch index
+Inv-loop image scratch₀ pages index₀ scratch index = (pages ≡ length scratch₀ / 20) × Heading image scratch₀ scratch index
 
 abbrev μ-loop : tie.MeasureT-loop
 μ-loop image scratch₀ pages index₀ scratch index = pages - index

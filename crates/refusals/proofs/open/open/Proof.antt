@@ -1,4 +1,4 @@
-use Prim.Native.Nat.{_/_}
+use Prim.Native.Nat.{_*_, _/_}
 use mathlib.Core.Path.{_≡_, refl, sym, _∙_}
 use mathlib.Core.List.{_++_}
 use mathlib.Core.Bool.{true}
@@ -54,7 +54,7 @@ same-length c = search needs
 -- what verify left of the scratch
 left : (c : tie.After-verify)
     → let s = start (c .before .before .before) in
-    let out = (c .verify .last .1 .0) ++ drop (length (s .args .image .now) / 64) (s .args .scratch .now) in
+    let out = (c .verify .last .1 .0) ++ drop (20 * (length (s .args .image .now) / 1024)) (s .args .scratch .now) in
     (length out ≡ length (s .args .scratch .now)) × (drop (length (s .args .image .now)) out ≡ drop (length (s .args .image .now)) (s .args .scratch .now))
 left c =
     let f = fits (c .before .before) in
@@ -81,6 +81,7 @@ open-spec =
     is-length-requires
     returns
     returns-2
+    (λ c. search needs)
     slice-relend-prefix-verify
     slice-aggregate-verify
     verify-requires

@@ -7,7 +7,7 @@ use borrow.Author.Tests.{not-true, not-false}
 use denote.Ref.{now}
 use Rattle.heads.specs.Claims.{Lent, Kept, Claimed}
 use Rattle.walks.specs.Found.{unclaimed}
-use Rattle.walks.proofs.Pieces.{claim-linking, claim-link, claim-falls}
+use Rattle.walks.proofs.Pieces.{claim-in-head, claim-head32, claim-falls}
 use Rattle.spans.proofs.PageClaims.{Noting, noting-start, noting-end, noting-no, noting-few, noting-next}
 use Rattle.spans.proofs.claims.claim_conts.Statement.{statement}
 use Rattle.spans.proofs.claims.claim_conts.Tie as tie
@@ -62,12 +62,12 @@ note-requires c κs =
     let k = some (turn v) in
     (noting v (k .0) (k .1) .charted .long, few (c .before) .0, few (c .before) .1)
 
-link-requires : tie.Need-link-requires Inv-loop μ-loop
-link-requires c κs =
+head32-requires : tie.Need-head32-requires Inv-loop μ-loop
+head32-requires c κs =
     let e = c .before .before .before .before .before in
     let v = e .before .before .before in
     let k = some (turn v) in
-    claim-linking (claim v (k .0) (k .1)) (not-false _ (e .if1 .left)) (noting v (k .0) (k .1) .claiming .lent) (omega arith) (omega arith)
+    claim-in-head (claim v (k .0) (k .1)) (not-false _ (e .if1 .left)) (noting v (k .0) (k .1) .claiming .lent) (omega arith)
 
 loop-less : tie.Need-loop-less Inv-loop μ-loop
 loop-less c =
@@ -83,7 +83,7 @@ loop-again c img lent =
     let v = e .before .before .before in
     let done = not-false _ (e .if1 .left) in
     noting-next (noting v img lent) (turn v .loop-test .taken) (claim v img lent) done (n .note .ensures) _
-    (claim-link (claim v img lent) done (noting v img lent .claiming .lent) (omega arith) (omega arith) (c .link .ensures) .is)
+    (claim-head32 (claim v img lent) done (noting v img lent .claiming .lent) (omega arith) (omega arith) (c .head32 .ensures) .is)
 
 same-length-3 : tie.Need-same-length-3 Inv-loop μ-loop
 same-length-3 c = let k = c .before .before .before .before .pre .0 in c .before .loop .inv (k .0) (k .1) .claiming .kept
@@ -109,7 +109,7 @@ claim-conts-spec =
     returns
     note-requires
     (λ c. omega (arith, few (c .before .before .before .before) .0))
-    link-requires
+    head32-requires
     loop-less
     loop-again
     same-length-3

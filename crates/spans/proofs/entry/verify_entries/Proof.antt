@@ -12,13 +12,13 @@ use Rattle.spans.proofs.entry.verify_entries.Statement.{statement}
 use Rattle.spans.proofs.entry.verify_entries.Tie as tie
 
 abbrev Inv-loop : tie.InvT-loop
-Inv-loop image chart more left size here₀ rest₀ key₀ i₀ here rest key i = Walking Keys image here₀ key₀ here rest key i × (i ≤ size) × Spread image chart more here rest
+Inv-loop image scratch chart more left size here₀ rest₀ key₀ i₀ here rest key i = Walking Keys image here₀ key₀ here rest key i × (i ≤ size) × Spread image chart more here rest
 
 abbrev μ-loop : tie.MeasureT-loop
-μ-loop image chart more left size here₀ rest₀ key₀ i₀ here rest key i = size - i
+μ-loop image scratch chart more left size here₀ rest₀ key₀ i₀ here rest key i = size - i
 
 loop-holds : tie.Need-loop-holds Inv-loop μ-loop
-loop-holds c = let p = c .before .before .pre in (walking-start _ (p .0), omega arith, p .1)
+loop-holds c = let p = c .before .before .before .pre in (walking-start _ (p .1), omega arith, p .2)
 
 skim-requires : tie.Need-skim-requires Inv-loop μ-loop
 skim-requires c κs = walking-ready (c .before .loop .inv .0)
@@ -33,7 +33,7 @@ verify-entry-requires : tie.Need-verify-entry-requires Inv-loop μ-loop
 verify-entry-requires c κs =
     let s = c .before .before .before in
     let v = s .before .before .loop .inv in
-    (walking-ready (walking-more (v .0) (s .skim .ensures .read) refl refl), spread-entered (v .2) (walking-ready (v .0) .key) (s .skim .ensures .read))
+    (s .before .before .before .before .before .before .pre .0, walking-ready (walking-more (v .0) (s .skim .ensures .read) refl refl), spread-entered (v .2) (walking-ready (v .0) .key) (s .skim .ensures .read))
 
 returns-2 : tie.Need-returns-2 Inv-loop μ-loop
 returns-2 c =
@@ -72,8 +72,8 @@ verify-entries-spec =
     (λ c. search needs)
     (λ c. search needs)
     returns-2
-    (λ c. let e = c .before .before .before .before in let l = e .before .before .before .before .before in omega (arith, e .if1 .left, l .before .before .before .fits))
-    (λ c. let e = c .before .before .before .before in let l = e .before .before .before .before .before in omega (arith, e .if1 .left, l .before .before .before .fits, l .loop .inv .1))
+    (λ c. let e = c .before .before .before .before in let l = e .before .before .before .before .before in omega (arith, e .if1 .left, l .before .before .before .before .fits))
+    (λ c. let e = c .before .before .before .before in let l = e .before .before .before .before .before in omega (arith, e .if1 .left, l .before .before .before .before .fits, l .loop .inv .1))
     (λ c. omega (arith, c .before .before .before .before .if1 .left))
     loop-again
     returns-3)

@@ -11,50 +11,51 @@ use Rattle.spans.proofs.entry.verify_entry.Statement.{statement}
 use Rattle.spans.proofs.entry.verify_entry.Tie as tie
 
 add-if1 : tie.Need-add-if1
-add-if1 c = omega (arith, c .gap .ensures, gap-most (c .before .before .before .args .at .offset) 4)
+add-if1 c = omega (arith, c .gap .ensures, gap-most (c .before .before .before .before .args .at .offset) 4)
 
 returns : tie.Need-returns
-returns c = entry-short (c .before .before .before .before .pre .0) (c .before .gap .ensures) (c .if1 .taken)
+returns c = entry-short (c .before .before .before .before .before .pre .1) (c .before .gap .ensures) (c .if1 .taken)
 
 lengths-requires : tie.Need-lengths-requires
-lengths-requires c κs = entry-enough (c .before .before .before .before .pre .0) (c .before .gap .ensures) (c .if1 .left)
+lengths-requires c κs = entry-enough (c .before .before .before .before .before .pre .1) (c .before .gap .ensures) (c .if1 .left)
 
 returns-2 : tie.Need-returns-2
 returns-2 c =
     let d = c .before .before .before in
-    entry-over (d .before .before .before .before .pre .0) (d .before .gap .ensures) (c .before .before .lengths .ensures) (d .if1 .left) (c .if2 .taken)
+    entry-over (d .before .before .before .before .before .pre .1) (d .before .gap .ensures) (c .before .before .lengths .ensures) (d .if1 .left) (c .if2 .taken)
 
 above-requires : tie.Need-above-requires
 above-requires c κs =
     let d = c .before .before .before in
-    entry-keys (d .before .before .before .before .pre .0) (d .before .gap .ensures) (c .before .before .lengths .ensures) (d .if1 .left) (c .if2 .left)
+    entry-keys (d .before .before .before .before .before .pre .1) (d .before .gap .ensures) (c .before .before .lengths .ensures) (d .if1 .left) (c .if2 .left)
 
 returns-3 : tie.Need-returns-3
 returns-3 c =
     let e = c .before .before in
     let d = e .before .before .before in
-    entry-not (d .before .before .before .before .pre .0) (d .before .gap .ensures) (e .before .before .lengths .ensures) (d .if1 .left) (e .if2 .left) (c .before .above .ensures) (not-true _ (c .if3 .taken))
+    entry-not (d .before .before .before .before .before .pre .1) (d .before .gap .ensures) (e .before .before .lengths .ensures) (d .if1 .left) (e .if2 .left) (c .before .above .ensures) (not-true _ (c .if3 .taken))
 
 leap-requires : tie.Need-leap-requires
 leap-requires c κs =
     let e = c .before .before in
     let d = e .before .before .before in
     let g = d .before .gap .ensures in
-    (spread-on (d .before .before .before .before .pre .1) (omega (arith, g, d .if1 .left)) (e .before .before .lengths .ensures .moved) (omega (arith, g)), omega (arith, e .if2 .left))
+    let p = d .before .before .before .before .before .pre in
+    (p .0, spread-on (p .2) (omega (arith, g, d .if1 .left)) (e .before .before .lengths .ensures .moved) (omega (arith, g)), omega (arith, e .if2 .left))
 
 -- the key is not empty
 some : (c : tie.Else3) → 1 ≤ c .before .before .before .before .lengths .result .key
 some c =
     let e = c .before .before in
     let d = e .before .before .before in
-    entry-some (d .before .before .before .before .pre .0) (d .before .gap .ensures) (e .before .before .lengths .ensures) (d .if1 .left) (e .if2 .left) (c .before .above .ensures) (not-false _ (c .if3 .left))
+    entry-some (d .before .before .before .before .before .pre .1) (d .before .gap .ensures) (e .before .before .lengths .ensures) (d .if1 .left) (e .if2 .left) (c .before .above .ensures) (not-false _ (c .if3 .left))
 
 prefix-most-requires : tie.Need-prefix-most-requires
 prefix-most-requires c κs =
     let f = c .before in
     let e = f .before .before in
     let d = e .before .before .before in
-    (entry-keys (d .before .before .before .before .pre .0) (d .before .gap .ensures) (e .before .before .lengths .ensures) (d .if1 .left) (e .if2 .left) .1, some f)
+    (entry-keys (d .before .before .before .before .before .pre .1) (d .before .gap .ensures) (e .before .before .lengths .ensures) (d .if1 .left) (e .if2 .left) .1, some f)
 
 returns-4 : tie.Need-returns-4
 returns-4 c =
@@ -62,7 +63,7 @@ returns-4 c =
     let e = f .before .before in
     let d = e .before .before .before in
     let z = e .before .before .lengths .ensures in
-    entry-done (d .before .before .before .before .pre .0) (d .before .gap .ensures) z (d .if1 .left) (e .if2 .left) (f .before .above .ensures) (not-false _ (f .if3 .left)) (c .before .leap .ensures) (c .prefix-most .ensures) refl
+    entry-done (d .before .before .before .before .before .pre .1) (d .before .gap .ensures) z (d .if1 .left) (e .if2 .left) (f .before .above .ensures) (not-false _ (f .if3 .left)) (c .before .leap .ensures) (c .prefix-most .ensures) refl
 
 pub verify-entry-spec : {M : Type 1} → statement M
 verify-entry-spec =

@@ -5,7 +5,7 @@ use borrow.Author.Tests.{not-true, not-false}
 use mathlib.Core.Path.{_≡_}
 use Rattle.blockfile.specs.Bytes.{pg, be32}
 use Rattle.heads.specs.Claims.{Claimed}
-use Rattle.walks.proofs.Pieces.{claim-lent, claim-inside, claim-linking, claim-link}
+use Rattle.walks.proofs.Pieces.{claim-lent, claim-inside, claim-in-head, claim-head32}
 use Rattle.verify.proofs.Frees.{block-no, block-over, block-not, block-done}
 use Rattle.verify.proofs.free.claim_block.Statement.{statement}
 use Rattle.verify.proofs.free.claim_block.Tie as tie
@@ -18,20 +18,20 @@ abbrev claim : (v : tie.After-claim) → Claimed (start v .args .image .now) (st
 claim v = v .claim .ensures _ (start v .pre)
 
 -- its count
-count : (g : tie.After-link) → let s = start (g .before .before .before .before .before) in g .link .result ≡ be32 (pg (s .args .image .now) (s .args .page)) 12
+count : (g : tie.After-head32) → let s = start (g .before .before .before .before .before) in g .head32 .result ≡ be32 (pg (s .args .image .now) (s .args .page)) 12
 count g =
     let d = g .before .before in
     let v = d .before .before .before in
-    claim-link (claim v) (not-false _ (d .if1 .left)) (start v .pre) (omega arith) (omega arith) (g .link .ensures) .is
+    claim-head32 (claim v) (not-false _ (d .if1 .left)) (start v .pre) (omega arith) (omega arith) (g .head32 .ensures) .is
 
 returns : tie.Need-returns
 returns c = block-no _ _ _ _ _ (claim (c .before .before .before)) (not-true _ (c .if1 .taken))
 
-link-requires : tie.Need-link-requires
-link-requires c κs =
+head32-requires : tie.Need-head32-requires
+head32-requires c κs =
     let d = c .before in
     let v = d .before .before .before in
-    claim-linking (claim v) (not-false _ (d .if1 .left)) (start v .pre) (omega arith) (omega arith)
+    claim-in-head (claim v) (not-false _ (d .if1 .left)) (start v .pre) (omega arith)
 
 returns-2 : tie.Need-returns-2
 returns-2 c =
@@ -66,7 +66,7 @@ claim-block-spec =
     (λ c κs. search needs)
     (λ c. search needs)
     returns
-    link-requires
+    head32-requires
     (λ c. search needs)
     returns-2
     claim-listed-requires

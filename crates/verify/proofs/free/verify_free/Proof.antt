@@ -6,8 +6,8 @@ use borrow.Author.Needs.{needs}
 use lib.ListN.{length}
 use Rattle.walks.specs.Found.{Open, unclaimed}
 use Rattle.blockfile.specs.Bytes.{pg, be32}
-use Rattle.heads.specs.Claims.{Lent}
-use Rattle.heads.proofs.Claims.{link-read}
+use Rattle.heads.specs.Claims.{Lent, InHead}
+use Rattle.heads.proofs.Claims.{head32-read}
 use Rattle.walks.proofs.Founds.{found-lent, unclaimed-most}
 use Rattle.verify.proofs.Frees.{Freeing, freeing-start, freeing-end, freeing-no, freeing-next, block-turn}
 use Rattle.verify.proofs.free.verify_free.Statement.{statement}
@@ -45,18 +45,21 @@ lent c =
     let took = c .before .before .before .before .before in
     found-lent (took .before .before .before .loop .inv .lent) (took .claim-block .ensures .sound _ (c .before .n .given .1) .found)
 
-link-requires : tie.Need-link-requires Inv-loop μ-loop
-link-requires c κs =
-    let t = turn (c .before) in
-    record { small = lent (c .before) .most; low = t .0 .low; high = omega (arith, t .0 .high, t .3); fits = omega arith }
+-- the block's head can be read
+in-block : (c : tie.After-known-told Inv-loop μ-loop) → let took = c .before .before .before .before .before in InHead (took .claim-block .last .1 .0) (took .before .before .before .loop .page) 8 4
+in-block c =
+    let t = turn c in
+    let room = lent c .room in
+    record { small = omega (arith, room .whole, room .most); low = t .0 .low; high = omega (arith, t .0 .high, t .3); fits = omega arith }
+
+head32-requires : tie.Need-head32-requires Inv-loop μ-loop
+head32-requires c κs = in-block (c .before)
 
 -- the page of the next block
-next : (c : tie.After-link Inv-loop μ-loop)
+next : (c : tie.After-head32 Inv-loop μ-loop)
     → let at = c .before .before .before .before .before .before .before .before .before .before in
-    c .link .result ≡ be32 (pg (at .before .before .before .args .image .now) (at .loop .page)) 8
-next c =
-    let t = turn (c .before .before) in
-    link-read (lent (c .before .before)) _ (t .0 .low) (omega (arith, t .0 .high, t .3)) 8 (omega arith) (omega arith) (c .link .ensures) .is
+    c .head32 .result ≡ be32 (pg (at .before .before .before .args .image .now) (at .loop .page)) 8
+next c = head32-read (lent (c .before .before)) (in-block (c .before .before)) (omega arith) (c .head32 .ensures) .is
 
 loop-again : tie.Need-loop-again Inv-loop μ-loop
 loop-again c =
@@ -78,7 +81,7 @@ verify-free-spec =
     (λ c. c .before .before .before .before .claim-block .kept .1 .0 ∙ c .before .before .before .before .before .before .before .loop .inv .long)
     returns
     (λ c. omega (arith, turn c, unclaimed-most (c .before .before .before .before .before .before .before .before .before .before .before .args .scratch .now)))
-    link-requires
+    head32-requires
     (λ c. omega (arith, turn (c .before .before)))
     loop-again
     (λ c. omega arith)

@@ -131,7 +131,7 @@ returns-6 c =
     let p = started .before .before .before .before .pre in
     good _ _ (p .0) (p .1) _ _ (started .verify-superblock .ensures) _ (meta .before .before .before .s .given .1) _ _ (meta .verify-table .ensures) _ (tables .before .before .before .tables .given .1)
     _ _ (tables .verify-tables .ensures) _ (free .before .before .before .keys .given .1) _ _ (free .verify-free .ensures) _ (c .before .before .before .before .free .given .1)
-    _ (let l = p .0 .lent in omega (arith, l .size, l .whole))
+    _ (omega (arith, p .0 .lent .room .size))
     (sym (c .before .all-claimed .ensures) ∙ not-false _ (c .if1 .left))
 
 pub judge-spec : {M : Type 1} → statement M

@@ -39,11 +39,11 @@ tabling l = let start = l .before .before .before .before .before .before in l .
 verify-named-requires : tie.Need-verify-named-requires Inv-loop μ-loop
 verify-named-requires c κs =
     let l = c .before in
-    let p = l .before .before .before .before .before .before .pre .0 in
+    let room = l .before .before .before .before .before .before .pre .0 .room in
     let t = tabling l in (
       t .lent,
       tabling-names t (l .loop-test .taken),
-      omega (arith, t .few, p .most, unclaimed-most (l .before .before .before .before .before .before .args .scratch .now)),
+      omega (arith, t .few, room .whole, room .most, unclaimed-most (l .before .before .before .before .before .before .args .scratch .now)),
     )
 
 enum-known-n : tie.Need-enum-known-n Inv-loop μ-loop

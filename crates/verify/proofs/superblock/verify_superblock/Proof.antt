@@ -21,7 +21,7 @@ claim v = v .claim .ensures _ (start v .pre)
 
 -- how many pages there are
 counted : (v : tie.After-claim) → length (start v .args .image .now) / 1024 ≡ pagesIn (start v .args .scratch .now)
-counted v = let l = start v .pre in omega (arith, l .size, l .whole)
+counted v = omega (arith, start v .pre .room .size)
 
 returns : tie.Need-returns
 returns c = super-no _ _ _ _ (claim (c .before .before .before)) (not-true _ (c .if1 .taken))
@@ -32,9 +32,9 @@ inside c fits = claim-inside (claim (c .before .before .before)) (not-false _ (c
 
 is-fixed-requires : tie.Need-is-fixed-requires
 is-fixed-requires c κs =
-    let l = start (c .before .before .before) .pre in
+    let room = start (c .before .before .before) .pre .room in
     let i = inside c {o = 0} {w = 0} (omega arith) in
-    (omega (arith, l .size, l .whole), (omega (arith, i .high), omega (arith, l .size, l .most)))
+    (omega (arith, room .size), (omega (arith, i .high), omega (arith, room .size, room .most)))
 
 returns-2 : tie.Need-returns-2
 returns-2 c =
