@@ -129,7 +129,8 @@ fn open<'a>(image: &'a [u8], scratch: &mut [u8]) -> Result<(&'a [Page], Counts),
     let pages = page::pages(image).ok_or(Refusal::ImageLength)?;
     let scratch = scratch.get_mut(..image.len());
     let scratch = scratch.ok_or(Refusal::ScratchShort)?;
-    let counts = verify::verify(pages, page::heads(scratch, pages.len()));
+    let (heads, behind) = page::heads(scratch, pages.len());
+    let counts = verify::verify(pages, heads, behind);
     scratch.fill(0);
     let counts = counts.ok_or(Refusal::NotWellFormed)?;
     Ok((pages, counts))

@@ -11,6 +11,12 @@ pub type Head = [u8; HEAD];
 /// How many these are.
 pub const HEAD: usize = 16;
 
+/// The bytes behind a head: the sizes of a span, the lowest entry of a tower.
+pub type Behind = [u8; BEHIND];
+
+/// How many these are.
+pub const BEHIND: usize = 4;
+
 /// The image as pages, if its length is that of an image.
 pub fn pages(image: &[u8]) -> Option<&[Page]> {
     let (pages, rest) = image.as_chunks();
@@ -22,9 +28,13 @@ pub fn pages_mut(image: &mut [u8]) -> &mut [Page] {
     image.as_chunks_mut().0
 }
 
-/// The heads of so many pages, in the scratch.
-pub fn heads(scratch: &mut [u8], pages: usize) -> &mut [Head] {
-    &mut scratch.as_chunks_mut().0[..pages]
+/// The heads of so many pages in the scratch, and the bytes behind them.
+pub fn heads(scratch: &mut [u8], pages: usize) -> (&mut [Head], &mut [Behind]) {
+    let (heads, rest) = scratch.split_at_mut(HEAD * pages);
+    (
+        heads.as_chunks_mut().0,
+        &mut rest.as_chunks_mut().0[..pages],
+    )
 }
 
 fn is_count(pages: usize) -> bool {

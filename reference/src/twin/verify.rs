@@ -1,12 +1,12 @@
 //! Is the image well-formed? One pass that claims every page it meets.
 //!
-//! The heads of the pages, with their marks and links, are first copied to the scratch, in the order
-//! of the pages: so links are then followed in memory that lies close together. A page is claimed
+//! The heads of the pages, with their marks and links, and the four bytes behind each are first copied
+//! to the scratch, in the order of the pages: so they are then read from memory that lies close together. A page is claimed
 //! once, in its head, and of its other bytes nothing is read before: so the pass ends on any bytes,
 //! in time linear in the image.
 
 use super::entry::{self, Entries, Key, Place};
-use super::page::{bears, page, u16_at, u32_at, Head, Page, HEAD};
+use super::page::{bears, page, u16_at, u32_at, Behind, Head, Page, BEHIND, HEAD};
 use crate::page::{
     block, listed_number, skip_list, span, superblock, tower, Kind, MAX_NUMBERS, METAINDEX, PAGE,
     SUPERBLOCK,
@@ -20,14 +20,17 @@ pub struct Counts {
     pub free: u64,
 }
 
-/// The counts of a well-formed image. `heads` is lent, one for each page, and left in any state.
-pub fn verify(pages: &[Page], heads: &mut [Head]) -> Option<Counts> {
-    for (head, page) in heads.iter_mut().zip(pages) {
+/// The counts of a well-formed image. `heads` and `behind` are lent, one for each page, and left in
+/// any state.
+pub fn verify(pages: &[Page], heads: &mut [Head], behind: &mut [Behind]) -> Option<Counts> {
+    for ((head, behind), page) in heads.iter_mut().zip(&mut *behind).zip(pages) {
         head.copy_from_slice(&page[..HEAD]);
+        behind.copy_from_slice(&page[HEAD..HEAD + BEHIND]);
     }
     let mut walk = Walk {
         pages,
         heads,
+        behind,
         claimed: 0,
     };
     let first_block = walk.superblock()?;
@@ -62,12 +65,15 @@ fn legal_span_size(size: u16) -> bool {
 struct Walk<'a> {
     pages: &'a [Page],
     heads: &'a mut [Head],
+    behind: &'a [Behind],
     claimed: usize,
 }
 
 /// The tower that is next at each level below the head's current.
 struct Levels {
     height: usize,
+    /// That at level 0, read without waiting for the tower's page.
+    lowest: u32,
     next: [u32; MAX_NUMBERS],
     /// The towers met, first tower counted.
     towers: u32,
@@ -173,9 +179,9 @@ impl<'a> Walk<'a> {
     /// keys have to rise from the last one met, so none of them is empty.
     fn span(&mut self, number: u32, span_size: u16, last: &mut Key) -> Option<u16> {
         let pages = self.pages;
-        let span = page(pages, number);
-        let size = u16_at(span, span::SIZE);
-        holds(u16_at(span, span::MAX_KEYS) == span_size && size <= span_size)?;
+        let sizes = self.behind(number);
+        let size = u16_at(sizes, span::SIZE - HEAD);
+        holds(u16_at(sizes, span::MAX_KEYS - HEAD) == span_size && size <= span_size)?;
         let mut at = Place::start(number);
         let mut before = *last;
         for _ in 0..size {
@@ -213,16 +219,24 @@ impl<'a> Walk<'a> {
         u32_at(&self.heads[number as usize - 1], span::CONTINUATION)
     }
 
+    /// The bytes behind the head of a page that is claimed.
+    #[inline]
+    fn behind(&self, number: u32) -> &Behind {
+        &self.behind[number as usize - 1]
+    }
+
     /// The head of a table with this first span.
     fn head(&mut self, number: u32, first: u32) -> Option<Levels> {
         let head = self.claim(number, Kind::Tower)?;
         holds(u32_at(&head, tower::SPAN) == first)?;
         let mut levels = Levels {
             height: height(&head)?,
+            lowest: 0,
             next: [0; MAX_NUMBERS],
             towers: 1,
         };
         levels.pass(page(self.pages, number), levels.height);
+        levels.lowest = levels.next[0];
         Some(levels)
     }
 
@@ -230,7 +244,7 @@ impl<'a> Walk<'a> {
     /// its own.
     #[inline]
     fn tower(&mut self, span: u32, levels: &mut Levels) -> Option<()> {
-        let number = levels.next[0];
+        let number = levels.lowest;
         if number == 0 {
             return Some(());
         }
@@ -241,6 +255,7 @@ impl<'a> Walk<'a> {
         let height = height(&self.claim(number, Kind::Tower)?)?;
         holds((1..=levels.height).contains(&height) && levels.all_are(number, height))?;
         levels.pass(page(self.pages, number), height);
+        levels.lowest = u32_at(self.behind(number), tower::NEXT - HEAD);
         levels.towers += 1;
         Some(())
     }
