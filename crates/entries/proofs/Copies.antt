@@ -1,12 +1,12 @@
--- The ways through `number`, `copy_bytes` and `copy`.
+-- The ways through `number` and `copy`.
 use Prim.Native.Nat.{ℕ, _+_, _*_, _-_, _≤_, _<_}
 use native.Mathlib.Omega.{arith}
 use mathlib.Core.Path.{_≡_, refl, ap, _∙_}
 use mathlib.Core.List.{List}
-use lib.ListN.{length, take, drop, set, getD, length-drop, length-set}
-use lib.Seq.{sets, sets-eq, length-sets, length-take-le, take-add, take-all, getD-drop}
+use lib.ListN.{length, take, drop, getD, length-drop}
+use lib.Seq.{sets, sets-eq, length-sets, length-take-le, take-add, getD-drop}
 use Rattle.blockfile.specs.Bytes.{pg, be16, be32}
-use Rattle.laws.proofs.Lists.{sets-append, sets-turn}
+use Rattle.laws.proofs.Lists.{sets-append}
 use Rattle.entries.specs.declared.place.Place.{Place}
 use Rattle.entries.specs.declared.place.Got.{Got}
 use Rattle.entries.specs.Places.{Rest, Enough, Stepped, Numbered, Copied}
@@ -36,23 +36,6 @@ number-done {img} {at} {a} {b} {c} {d} t u v q {w} {x} {y} {z} e f g h =
           let b3 : z ≡ getD s 3 0 = h ∙ q .byte (drop 1 (drop 1 (drop 1 s))) r3 ∙ getD-drop 1 (drop 1 (drop 1 s)) 0 0 ∙ getD-drop 1 (drop 1 s) 1 0 ∙ getD-drop 1 s 2 0 in
           rw (b0, b1, b2, b3);
     }
-
--- ---- copy_bytes: i bytes of src are stored from index a on
-
-pub record Stored (old : List ℕ) (a : ℕ) (src new : List ℕ) (i : ℕ) : Type 0 where
-  pub most : i ≤ length src
-  pub is : new ≡ sets old a (take i src)
-  pub long : length new ≡ length old
-
-pub stored-none : (old : List ℕ) (a : ℕ) (src : List ℕ) → Stored old a src old 0
-stored-none old a src = record { most = omega arith; is = refl; long = refl }
-
-module _ {old : List ℕ} {a : ℕ} {src new : List ℕ} {i : ℕ} (s : Stored old a src new i) where
-  pub stored-more : i < length src → Stored old a src (set new (a + i) (getD src i 0)) (i + 1)
-  stored-more h = record { most = omega arith; is = rw (s .is) (sets-turn old src a i 0 h); long = simp length-set (s .long) }
-
-  pub stored-all : length src ≤ i → new ≡ sets old a src
-  stored-all h = s .is ∙ ap (sets old a) (take-all i src h)
 
 -- ---- copy: of n bytes, `left` are still to be copied from here on
 

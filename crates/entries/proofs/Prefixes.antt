@@ -6,7 +6,7 @@ use native.Mathlib.Nat.{add-zero, zero-mul, mul-assoc, add-mul, mul-le-mul-right
 use mathlib.Core.Path.{_≡_, refl, ap, ap₂, sym, _∙_, subst}
 use mathlib.Core.Logic.{by-cases}
 use mathlib.Core.List.{List, [], _∷_}
-use lib.ListN.{length, take, drop, getD}
+use lib.ListN.{take, drop, getD}
 use lib.Pow.{pow-pos, pow-add}
 use Rattle.blockfile.specs.Bytes.{pg, be16, be32, Every}
 use Rattle.entries.specs.declared.key.Order.the-variants.{Less}

@@ -2,11 +2,11 @@
 ghost use mathlib.Core.Path.{_≡_};
 ghost use Prim.Native.Nat.{_+_, _≤_};
 ghost use lib.ListN.{length};
-ghost use lib.Seq.{sets};
 ghost use Rattle.entries.specs.Places.{Enough, Numbered, Copied};
 use crate::place::Place;
 use crate::place::step;
 use pages::read::get32;
+use pages::write::copy_bytes;
 
 fn wide(b: u8) -> usize
     ensures { λ r. ⌜ (r ≡ b) × (r ≤ 255) ⌝ }
@@ -24,18 +24,6 @@ pub fn number(image: &[u8], at: Place) -> usize
     let c = step(image, b.after);
     let d = step(image, c.after);
     (wide(a.byte) * 256 + wide(b.byte)) * 65536 + (wide(c.byte) * 256 + wide(d.byte))
-}
-
-// All of src, over the bytes of into from `from` on.
-pub fn copy_bytes(into: &mut [u8], from: usize, src: &[u8])
-    requires { ⌜ from + length (now src) ≤ length (now into) ⌝ }
-    ensures { λ _. ⌜ now (into .exit) ≡ sets (now (into .entry)) from (now (src .entry)) ⌝ }
-{
-    let mut i = 0;
-    while i < src.len() {
-        into[from + i] = src[i];
-        i += 1;
-    }
 }
 
 // Copies the n bytes from the place on to the start of `into`, page part by page part.

@@ -2,23 +2,23 @@
 use Prim.Native.Nat.{ℕ, zero, suc, _+_, _*_, _-_, _/_, _≤_, _<_}
 use mathlib.Core.Bool.{Bool, true, false, _&&_, not, cond}
 use mathlib.Core.List.{List, []}
-use mathlib.Core.Logic.{by-cases}
+use mathlib.Core.Logic.{inl, inr, by-cases}
 use mathlib.Core.Path.{_≡_, refl, ap, sym, _∙_, subst}
 use native.Mathlib.Decide.{ℕ-discrete, decLt}
-use native.Mathlib.Nat.{add-zero}
+use native.Mathlib.Nat.{add-zero, zero-add}
 use native.Mathlib.Omega.{arith}
-use lib.ListN.{length, drop, getD, set, length-drop, length-set}
-use lib.Seq.{getD-drop, getD-set-same, getD-set-other}
+use lib.ListN.{length, take, drop, getD, set, length-take, length-drop, length-set}
+use lib.Seq.{sets, length-sets, getD-take, getD-drop, getD-set-same, getD-set-other}
 use lib.Dec.{T, eqb}
 use borrow.Author.Tests.{eq-eqb, ne-eqb, le-leb, lt-leb, lt-ltb, le-ltb, eqb-true, eqb-false}
 use Rattle.blockfile.specs.Bytes.{pg, be16, be32}
 use Rattle.blockfile.specs.Marks.{marks}
 use Rattle.pages.specs.Places.{Number}
-use Rattle.laws.proofs.Lists.{Agree}
+use Rattle.laws.proofs.Lists.{Agree, agree-in, agree-off}
 use Rattle.laws.proofs.Numbers.{be16-agree, be32-agree}
 use Rattle.laws.proofs.Pages.{pg-at, length-pg}
 use Rattle.heads.specs.Begins.{begins}
-use Rattle.heads.specs.Claims.{pagesIn, headAt, Room, Copied, opened, Lent, Headed, HeadCopied, head16, head32, InHead, Claimed, claimable, claimed, fullTo, full}
+use Rattle.heads.specs.Claims.{pagesIn, headAt, Room, opened, Lent, Headed, HeadCopied, head16, head32, InHead, Claimed, claimable, claimed, fullTo, full}
 use Rattle.heads.proofs.Marks.{begins-agree, begins-other, mark-some, mark-most, mark-first}
 
 -- room is a matter of length
@@ -34,20 +34,23 @@ opened-some b e = go (eqb b 0) refl e
     go true q z = omega arith
     go false q z = eqb-false b 0 q z
 
-pub copied-none : (src : List ℕ) (a : ℕ) (dst : List ℕ) (b : ℕ) → Copied src a dst b 0 dst
-copied-none src a dst b = record { long = refl; done = λ i h. absurd (omega arith); before = λ i h. refl; after = λ i h. refl }
+-- n bytes of src from byte a on stand in out from byte b on, and all others are kept
+pub record Copied (src : List ℕ) (a : ℕ) (dst : List ℕ) (b n : ℕ) (out : List ℕ) : Type 0 where
+  pub long : length out ≡ length dst
+  pub done : (i : ℕ) → i < n → getD out (b + i) 0 ≡ getD src (a + i) 0
+  pub before : (i : ℕ) → i < b → getD out i 0 ≡ getD dst i 0
+  pub after : (i : ℕ) → b + n ≤ i → getD out i 0 ≡ getD dst i 0
 
-pub copied-more : {src : List ℕ} {a : ℕ} {dst : List ℕ} {b n : ℕ} {out : List ℕ} → Copied src a dst b n out → b + n < length dst → Copied src a dst b (n + 1) (set out (b + n) (getD src (a + n) 0))
-copied-more {src} {a} {dst} {b} {n} {out} c h =
-    let v : ℕ = getD src (a + n) 0 in
-    record {
-      long = length-set out (b + n) v ∙ c .long;
-      done = λ i l. by-cases (ℕ-discrete i n)
-          (λ q. rw q (getD-set-same out (b + n) v 0 (omega (arith, c .long))))
-          (λ q. getD-set-other out (b + n) (b + i) v 0 (omega arith) ∙ c .done i (omega arith));
-      before = λ i l. getD-set-other out (b + n) i v 0 (omega arith) ∙ c .before i l;
-      after = λ i l. getD-set-other out (b + n) i v 0 (omega arith) ∙ c .after i (omega arith);
-    }
+pub copied : (src : List ℕ) (a : ℕ) {dst : List ℕ} (b n : ℕ) {out : List ℕ} → out ≡ sets dst b (take n (drop a src)) → a + n ≤ length src → b + n ≤ length dst → Copied src a dst b n out
+copied src a {dst} b n is h l =
+    let part : List ℕ = take n (drop a src) in
+    let long : length part ≡ n = simp (length-take, length-drop) (omega arith) in
+    rw is (record {
+      long = length-sets dst b part;
+      done = λ i q. simp (add-zero, zero-add) at (agree-in n part dst b 0 (omega arith) (omega arith) i q) ∙ getD-take n (drop a src) i 0 q ∙ getD-drop a src i 0;
+      before = λ i q. simp add-zero at (agree-off 1 part dst b i (inl (omega arith)) 0 (omega arith));
+      after = λ i q. simp add-zero at (agree-off 1 part dst b i (inr (omega arith)) 0 (omega arith));
+    })
 
 -- ---- Where the bytes of a head stand
 

@@ -44,13 +44,6 @@ pub record Headed (img scr : List ℕ) : Type 0 where
   pub lent : Lent img scr
   pub unclaimed : (j : ℕ) → 20 * j < length scr → getD scr (16 * j) 0 ≡ 0 → ⊥
 
--- n bytes of src from byte a on stand in out from byte b on, and all others are kept
-pub record Copied (src : List ℕ) (a : ℕ) (dst : List ℕ) (b n : ℕ) (out : List ℕ) : Type 0 where
-  pub long : length out ≡ length dst
-  pub done : (i : ℕ) → i < n → getD out (b + i) 0 ≡ getD src (a + i) 0
-  pub before : (i : ℕ) → i < b → getD out i 0 ≡ getD dst i 0
-  pub after : (i : ℕ) → b + n ≤ i → getD out i 0 ≡ getD dst i 0
-
 -- the head of the page of index j is copied, and those before it are kept
 pub record HeadCopied (img scr : List ℕ) (j : ℕ) (out : List ℕ) : Type 0 where
   pub long : length out ≡ length scr

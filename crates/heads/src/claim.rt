@@ -2,25 +2,14 @@
 // behind them the last four of all, so that a link's place is found by a shift. The head of a claimed page begins with 0.
 ghost use mathlib.Core.List.{List};
 ghost use mathlib.Core.Path.{_≡_};
-ghost use Prim.Native.Nat.{ℕ, _+_, _*_, _-_, _≤_, _<_};
+ghost use Prim.Native.Nat.{ℕ, _*_, _-_, _≤_, _<_};
 ghost use lib.ListN.{length};
 ghost use Rattle.pages.specs.Places.{Number};
-ghost use Rattle.heads.specs.Claims.{Room, Copied, HeadCopied, Headed, Lent, Claimed, InHead, full, pagesIn, headAt, head16, head32};
+ghost use Rattle.heads.specs.Claims.{Room, HeadCopied, Headed, Lent, Claimed, InHead, full, pagesIn, headAt, head16, head32};
 use crate::mark::bears;
 use pages::read::word16;
 use pages::read::word32;
-
-// Copies n bytes.
-fn copy_bytes(from: &[u8], start: usize, to: &mut [u8], at: usize, n: usize)
-    requires { ⌜ (length (now from) ≤ 4194304) × (start + n ≤ length (now from)) × (length (now to) ≤ 4194304) × (at + n ≤ length (now to)) ⌝ }
-    ensures { λ _. ⌜ Copied (now (from .entry)) start (now (to .entry)) at n (now (to .exit)) ⌝ }
-{
-    let mut i = 0;
-    while i < n {
-        to[at + i] = from[start + i];
-        i += 1;
-    }
-}
+use pages::write::copy_bytes;
 
 // Copies the head of the page of this index, by way of an array of its own, so that all of it is read before any of it is written
 // and the compiler takes it in two steps. A page that begins with 0 bears no mark; its head begins with 255, as no mark does
@@ -30,10 +19,12 @@ fn copy_head(image: &[u8], scratch: &mut [u8], index: usize)
     ensures { λ _. ⌜ HeadCopied (now (image .entry)) (now (scratch .entry)) index (now (scratch .exit)) ⌝ }
 {
     let pages = scratch.len() / 20;
+    let start = 1024 * index;
+    let end = start + 20;
     let mut head = [0u8; 20];
-    copy_bytes(image, 1024 * index, &mut head, 0, 20);
-    copy_bytes(&head, 0, scratch, 16 * index, 16);
-    copy_bytes(&head, 16, scratch, 16 * pages + 4 * index, 4);
+    copy_bytes(&mut head, 0, &image[start..end]);
+    copy_bytes(scratch, 16 * index, &head[..16]);
+    copy_bytes(scratch, 16 * pages + 4 * index, &head[16..20]);
     if scratch[16 * index] == 0 {
         scratch[16 * index] = 255;
     }

@@ -14,7 +14,7 @@ use Rattle.laws.proofs.Lists.{sets-turn}
 use Rattle.laws.proofs.Numbers.{length-word32}
 use Rattle.laws.proofs.Pages.{write-from, write-append}
 
--- a loop that stores the w bytes bs at offset o of page n, which is byte a, has stored i of them
+-- a loop that stores the w bytes bs at offset o of page n, which is byte a, has stored i of them; byte a of any list is as offset a of page 1
 pub record Stored (img₀ : List ℕ) (n o : ℕ) (bs : List ℕ) (w a : ℕ) (img : List ℕ) (i : ℕ) : Type 0 where
   pub start : a ≡ 1024 * (n - 1) + o
   pub whole : length bs ≡ w
@@ -35,9 +35,11 @@ module _ {img₀ : List ℕ} {n o : ℕ} {bs : List ℕ} {w a : ℕ} {img : List
     long = simp length-set (s .long);
   }
 
+  pub stored-here : w ≤ i → img ≡ sets img₀ a bs
+  stored-here l = s .is ∙ ap (sets img₀ a) (take-all i bs (omega (arith, s .whole)))
+
   pub stored-all : w ≤ i → 1 ≤ n → img ≡ write img₀ n o bs
-  stored-all l h =
-      rw (write-from img₀ n o bs h) (s .is ∙ ap (sets img₀ a) (take-all i bs (omega (arith, s .whole))) ∙ ap (λ (k : ℕ). sets img₀ k bs) (s .start))
+  stored-all l h = rw (write-from img₀ n o bs h) (stored-here l ∙ ap (λ (k : ℕ). sets img₀ k bs) (s .start))
 
 -- four bytes stored one after another
 pub sets-four : (l : List ℕ) (a x y z w : ℕ) → set (set (set (set l a x) (a + 1) y) (a + 2) z) (a + 3) w ≡ sets l a (x ∷ y ∷ z ∷ w ∷ [])

@@ -1,8 +1,9 @@
 // Bytes written to a page.
 ghost use mathlib.Core.Path.{_≡_};
 ghost use mathlib.Core.List.{[], _++_};
-ghost use Prim.Native.Nat.{_≤_, _<_};
+ghost use Prim.Native.Nat.{_+_, _≤_, _<_};
 ghost use lib.ListN.{length, getD, take, drop, replicate};
+ghost use lib.Seq.{sets};
 ghost use Rattle.blockfile.specs.Bytes.{word16, word32, write, padded};
 ghost use Rattle.blockfile.specs.Marks.{marks};
 ghost use Rattle.pages.specs.Places.{Inside, Chunk};
@@ -29,17 +30,24 @@ pub fn put32(image: &mut [u8], page: usize, offset: usize, v: usize)
     image[at + 3] = (v % 256) as u8;
 }
 
+// All of src, over the bytes of any slice from `from` on.
+pub fn copy_bytes(into: &mut [u8], from: usize, src: &[u8])
+    requires { ⌜ from + length (now src) ≤ length (now into) ⌝ }
+    ensures { λ _. ⌜ now (into .exit) ≡ sets (now (into .entry)) from (now (src .entry)) ⌝ }
+{
+    let mut i = 0;
+    while i < src.len() {
+        into[from + i] = src[i];
+        i += 1;
+    }
+}
+
 // All of src.
 pub fn put_bytes(image: &mut [u8], page: usize, offset: usize, src: &[u8])
     requires { ⌜ Inside (now image) page offset (length (now src)) ⌝ }
     ensures { λ _. ⌜ now (image .exit) ≡ write (now (image .entry)) page offset (now (src .entry)) ⌝ }
 {
-    let at = 1024 * (page - 1) + offset;
-    let mut i = 0;
-    while i < src.len() {
-        image[at + i] = src[i];
-        i += 1;
-    }
+    copy_bytes(image, 1024 * (page - 1) + offset, src)
 }
 
 // n zeros.

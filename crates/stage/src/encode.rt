@@ -12,8 +12,8 @@ use crate::change::Next;
 use crate::change::next_entry;
 use crate::measure::Part;
 use crate::measure::lens_at;
-use entries::copy::copy_bytes;
 use entries::place::Sizes;
+use pages::write::copy_bytes;
 use reader::copy_from;
 
 // A number as two bytes.

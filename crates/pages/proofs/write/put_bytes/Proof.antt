@@ -1,39 +1,20 @@
--- `pages::write::put_bytes` meets its contract.
-use Prim.Native.Nat.{_-_}
-use native.Mathlib.Omega.{arith}
-use mathlib.Core.Path.{refl}
-use lib.ListN.{length}
-use Rattle.pages.proofs.Stores.{Stored, stored-none, stored-more, stored-all}
+-- `pages::write::put_bytes` meets its contract: an offset of a page is a place in the image.
+use mathlib.Core.Path.{sym, _∙_}
+use borrow.Author.Needs.{needs}
+use Rattle.laws.proofs.Pages.{write-from}
 use Rattle.pages.proofs.write.put_bytes.Statement.{statement}
 use Rattle.pages.proofs.write.put_bytes.Tie as tie
 
-abbrev Inv-loop : tie.InvT-loop
-Inv-loop image₀ page offset src at i₀ image i = Stored image₀ page offset src (length src) at image i
-
-abbrev μ-loop : tie.MeasureT-loop
-μ-loop image₀ page offset src at i₀ image i = length src - i
-
-loop-again : tie.Need-loop-again Inv-loop μ-loop
-loop-again c = stored-more (c .before .before .loop .inv) _ refl (c .before .loop-test .taken)
-
-returns : tie.Need-returns Inv-loop μ-loop
-returns c = stored-all (c .before .loop .inv) (c .loop-test .left) (omega arith)
+returns : tie.Need-returns
+returns c = let p = c .before .before in p .copy-bytes .ensures ∙ sym (write-from _ _ _ _ (p .before .before .before .before .pre .low))
 
 pub put-bytes-spec : {M : Type 1} → statement M
 put-bytes-spec =
     tie.close
     (tie.spec
-    Inv-loop
-    μ-loop
-    (λ c. omega arith)
-    (λ c. omega arith)
-    (λ c. omega arith)
-    (λ c. stored-none _ _ _ _ _ _ refl refl)
-    (λ c. omega arith)
-    (λ c. omega arith)
-    (λ c. omega arith)
-    (λ c. omega arith)
-    (λ c. omega arith)
-    loop-again
-    (λ c. c .before .loop .inv .long)
+    (λ c. search needs)
+    (λ c. search needs)
+    (λ c. search needs)
+    (λ c κs. search needs)
+    (λ c. search needs)
     returns)
