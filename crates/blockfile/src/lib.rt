@@ -1,11 +1,5 @@
 // The trusted text: what an image is and what the calls answer. The definitions stand in specs/;
-// here are the marks and the answers of the calls.
-
-// The marks of the seven kinds of page, eight bytes for each, and their lengths.
-pub const MARKS: [u8; 56] =
-    *b"1A\xdeI2P\0\0SkipListBSLevelsSpan\0\0\0\0CONT\0\0\0\0#frList#~!FREE!~";
-
-pub const MARK_LENGTHS: [usize; 7] = [6, 8, 8, 4, 4, 8, 8];
+// here are the answers of the calls.
 
 // Why a call is refused: the rows of the refusal table, 1 to 10.
 pub enum Refusal {

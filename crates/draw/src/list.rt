@@ -6,6 +6,7 @@ ghost use lib.Seq.{sets};
 ghost use Rattle.blockfile.specs.Bytes.{be32, word32};
 ghost use Rattle.pages.specs.Places.{Number};
 use pages::read::word32;
+use pages::write::store32;
 
 // The number at an index of the list.
 pub fn number_at(numbers: &[u8], i: usize) -> usize
@@ -20,9 +21,5 @@ pub fn set_number(numbers: &mut [u8], i: usize, v: usize)
     requires { ⌜ 4 * i + 4 ≤ length (now numbers) ⌝ }
     ensures { λ _. ⌜ now (numbers .exit) ≡ sets (now (numbers .entry)) (4 * i) (word32 v) ⌝ }
 {
-    let at = 4 * i;
-    numbers[at] = (v / 16777216 % 256) as u8;
-    numbers[at + 1] = (v / 65536 % 256) as u8;
-    numbers[at + 2] = (v / 256 % 256) as u8;
-    numbers[at + 3] = (v % 256) as u8;
+    store32(numbers, 4 * i, v)
 }

@@ -8,7 +8,7 @@ use lib.ListN.{length, take, drop, getD, length-append, length-drop, List·getD-
 use lib.Seq.{drop-append-le, drop-at, drop-drop, getD-drop, take-append-le, take-take}
 use Rattle.blockfile.specs.Bytes.{pg, be16, be32, Every, firstOf}
 use Rattle.blockfile.specs.Fields.{AreConts}
-use Rattle.laws.proofs.Numbers.{be16-agree, be32-agree}
+use Rattle.laws.proofs.Numbers.{be16-agree}
 use Rattle.laws.proofs.Pages.{length-pg, pg-from}
 use Rattle.entries.specs.declared.place.Place.{Place}
 use Rattle.entries.specs.Places.{IsPage, streamOf, Rest}
@@ -57,10 +57,6 @@ module _ (img : List ℕ) (at : Place) (s : List ℕ) (r : Rest img at s) where
   pub rest-16 : (i : ℕ) → at .offset + (i + 2) ≤ 1024 → be16 s i ≡ be16 (pg img (at .page)) (at .offset + i)
   rest-16 i h =
       be16-agree s i (pg img (at .page)) (at .offset + i) (λ k q. rest-at (i + k) (omega arith) ∙ ap (λ (j : ℕ). getD (pg img (at .page)) j 0) (sym (add-assoc (at .offset) i k)))
-
-  pub rest-32 : (i : ℕ) → at .offset + (i + 4) ≤ 1024 → be32 s i ≡ be32 (pg img (at .page)) (at .offset + i)
-  rest-32 i h =
-      be32-agree s i (pg img (at .page)) (at .offset + i) (λ k q. rest-at (i + k) (omega arith) ∙ ap (λ (j : ℕ). getD (pg img (at .page)) j 0) (sym (add-assoc (at .offset) i k)))
 
   pub rest-take : (n : ℕ) → at .offset + n ≤ 1024 → take n s ≡ take n (drop (1024 * (at .page - 1) + at .offset) img)
   rest-take n h =

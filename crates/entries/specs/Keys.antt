@@ -1,10 +1,11 @@
 -- Keys on the pages of a span, and their order.
-use Prim.Native.Nat.{ℕ, zero, suc, _+_, _*_, _^_, _≤_, _<_}
+use Prim.Native.Nat.{ℕ, _+_, _≤_, _<_}
 use mathlib.Core.Path.{_≡_}
 use mathlib.Core.Bool.{Bool, true, cond}
-use mathlib.Core.List.{List, [], _∷_}
+use mathlib.Core.List.{List}
 use lib.ListN.{length, take, drop, getD}
 use Rattle.blockfile.specs.Order.{bytesBelow, same, allWithin}
+use Rattle.pages.specs.Begins.{lead}
 use Rattle.entries.specs.declared.key.Order.{Order}
 use Rattle.entries.specs.declared.key.Order.the-variants.{Less, Equal, Greater}
 use Rattle.entries.specs.declared.place.Place.{Place}
@@ -72,12 +73,6 @@ pub record OnPage (at : Place) (n : ℕ) (r : Bool) : Type 0 where
 -- the bytes bs are the key
 pub record KeyBytes (img : List ℕ) (at : Place) (n : ℕ) (bs : List ℕ) : Type 0 where
   pub are : (k : List ℕ) → KeyAt img at n k → bs ≡ k
-
--- the first n bytes as a number, as if zeros followed them
-unfoldable pub lead : (n : ℕ) → List ℕ → ℕ
-lead zero k = 0
-lead (suc n) [] = 0
-lead (suc n) (x ∷ k) = x * 2 ^ (8 * n) + lead n k
 
 -- p is the prefix of the key: its first eight bytes as a number
 pub record Prefixed (img : List ℕ) (at : Place) (n p : ℕ) : Type 0 where

@@ -9,7 +9,7 @@ ghost use Rattle.entries.specs.Keys.{Key, order, Compared, ComparedTo, P
 use crate::place::Place;
 use crate::place::settle;
 use crate::place::step;
-use crate::word::word;
+use pages::read::word64;
 
 // Which of two keys comes first: by unsigned bytes, a proper prefix first.
 pub enum Order {
@@ -65,7 +65,7 @@ fn same_words(x: &[u8], y: &[u8], n: usize, from: usize) -> usize
 {
     let mut i = from;
     while 8 <= n - i {
-        if word(x, i) != word(y, i) {
+        if word64(x, i) != word64(y, i) {
             return i;
         }
         i += 8;
@@ -80,8 +80,8 @@ fn compare_bytes(x: &[u8], y: &[u8]) -> Order
     let n = least(x.len(), y.len());
     let mut i = same_words(x, y, n, same_start(x, y, n));
     if 8 <= n - i {
-        let a = word(x, i);
-        let b = word(y, i);
+        let a = word64(x, i);
+        let b = word64(y, i);
         if a < b {
             return Order::Less;
         }

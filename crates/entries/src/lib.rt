@@ -3,4 +3,3 @@ pub mod copy;
 pub mod key;
 pub mod place;
 pub mod prefix;
-pub mod word;

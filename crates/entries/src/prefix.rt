@@ -2,7 +2,7 @@
 ghost use Prim.Native.Nat.{_+_, _≤_};
 ghost use Rattle.entries.specs.Keys.{Key, Prefixed, PrefixMost};
 use crate::place::Place;
-use pages::read::get32;
+use pages::read::word64;
 
 // The prefix of a key of n bytes. Eight bytes from the place on lie on its page; those behind the key are cut off.
 pub fn prefix(image: &[u8], at: Place, n: usize) -> usize
@@ -11,7 +11,7 @@ pub fn prefix(image: &[u8], at: Place, n: usize) -> usize
 {
     let page = at.page;
     let offset = at.offset;
-    let whole = get32(image, page, offset + 4) + get32(image, page, offset) * 4294967296;
+    let whole = word64(image, 1024 * (page - 1) + offset);
     if n < 8 {
         let behind = 64 - 8 * n;
         return whole >> behind << behind;

@@ -17,9 +17,10 @@ use Rattle.pages.specs.Places.{Number}
 use Rattle.laws.proofs.Lists.{Agree, agree-in, agree-off}
 use Rattle.laws.proofs.Numbers.{be16-agree, be32-agree}
 use Rattle.laws.proofs.Pages.{pg-at, length-pg}
-use Rattle.heads.specs.Begins.{begins}
+use Rattle.pages.specs.Begins.{begins}
+use Rattle.pages.proofs.Begins.{begins-agree, begins-other}
+use Rattle.pages.proofs.Marks.{mark-some, mark-most, mark-first}
 use Rattle.heads.specs.Claims.{pagesIn, headAt, Room, opened, Lent, Headed, HeadCopied, head16, head32, InHead, Claimed, claimable, claimed, fullTo, full}
-use Rattle.heads.proofs.Marks.{begins-agree, begins-other, mark-some, mark-most, mark-first}
 
 -- room is a matter of length
 pub room-long : {img scr out : List ℕ} → length out ≡ length scr → Room img scr → Room img out

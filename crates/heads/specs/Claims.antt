@@ -7,7 +7,7 @@ use lib.ListN.{length, getD, set}
 use lib.Dec.{eqb, leb, ltb}
 use Rattle.blockfile.specs.Bytes.{pg, be16, be32}
 use Rattle.blockfile.specs.Marks.{marks}
-use Rattle.heads.specs.Begins.{begins}
+use Rattle.pages.specs.Begins.{begins}
 
 -- ---- Heads: the first 20 bytes of each page. In the scratch the first 16 bytes of all heads come first, then the last four of all.
 

@@ -6,7 +6,7 @@ ghost use Prim.Native.Nat.{ℕ, _*_, _-_, _≤_, _<_};
 ghost use lib.ListN.{length};
 ghost use Rattle.pages.specs.Places.{Number};
 ghost use Rattle.heads.specs.Claims.{Room, HeadCopied, Headed, Lent, Claimed, InHead, full, pagesIn, headAt, head16, head32};
-use crate::mark::bears;
+use pages::mark::bears;
 use pages::read::word16;
 use pages::read::word32;
 use pages::write::copy_bytes;

@@ -2,4 +2,3 @@
 // sizes of a span, the heights and the lowest entry of a tower. The heads are copied to the scratch in one pass over the image, so
 // that a walk does not wait for the memory at each page.
 pub mod claim;
-pub mod mark;

@@ -41,22 +41,15 @@ module _ {img₀ : List ℕ} {n o : ℕ} {bs : List ℕ} {w a : ℕ} {img : List
   pub stored-all : w ≤ i → 1 ≤ n → img ≡ write img₀ n o bs
   stored-all l h = rw (write-from img₀ n o bs h) (stored-here l ∙ ap (λ (k : ℕ). sets img₀ k bs) (s .start))
 
--- four bytes stored one after another
+-- two and four bytes stored one after another
+pub sets-two : (l : List ℕ) (a x y : ℕ) → set (set l a x) (a + 1) y ≡ sets l a (x ∷ y ∷ [])
+sets-two l a x y = rw (add-one a)
+
 pub sets-four : (l : List ℕ) (a x y z w : ℕ) → set (set (set (set l a x) (a + 1) y) (a + 2) z) (a + 3) w ≡ sets l a (x ∷ y ∷ z ∷ w ∷ [])
 sets-four l a x y z w =
     let two : a + 2 ≡ suc (suc a) = omega arith in
     let three : a + 3 ≡ suc (suc (suc a)) = omega arith in
     rw (add-one a, two, three)
-
--- the stores of a number's two and four bytes
-module _ (img : List ℕ) (n o : ℕ) (h : 1 ≤ n) where
-  pub put-two : (x y : ℕ) → set (set img (1024 * (n - 1) + o) x) (1024 * (n - 1) + o + 1) y ≡ write img n o (x ∷ y ∷ [])
-  put-two x y = rw write-from (simp add-one)
-
-  pub put-four : (x y z w : ℕ)
-      → set (set (set (set img (1024 * (n - 1) + o) x) (1024 * (n - 1) + o + 1) y) (1024 * (n - 1) + o + 2) z) (1024 * (n - 1) + o + 3) w
-      ≡ write img n o (x ∷ y ∷ z ∷ w ∷ [])
-  put-four x y z w = rw (write-from img n o (x ∷ y ∷ z ∷ w ∷ []) h) (sets-four img (1024 * (n - 1) + o) x y z w)
 
 -- ---- a page of a stream
 

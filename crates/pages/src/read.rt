@@ -1,7 +1,8 @@
 // Numbers, big endian: anywhere in a slice, and on a page.
+ghost use mathlib.Core.Path.{_≡_};
 ghost use Prim.Native.Nat.{_+_, _≤_, _<_};
 ghost use lib.ListN.{length, getD};
-ghost use Rattle.blockfile.specs.Bytes.{pg, be16, be32};
+ghost use Rattle.blockfile.specs.Bytes.{pg, be16, be32, be64};
 ghost use Rattle.pages.specs.Places.{Inside, Number};
 
 // A byte of any slice.
@@ -28,6 +29,14 @@ pub fn word32(bytes: &[u8], at: usize) -> usize
     ensures { λ r. ⌜ Number (be32 (now (bytes .entry)) at) 4294967296 r ⌝ }
 {
     word16(bytes, at) * 65536 + word16(bytes, at + 2)
+}
+
+// Eight bytes of any slice. In this order of the two halves they are compiled to one load.
+pub fn word64(bytes: &[u8], at: usize) -> usize
+    requires { ⌜ at + 8 ≤ length (now bytes) ⌝ }
+    ensures { λ r. ⌜ r ≡ be64 (now (bytes .entry)) at ⌝ }
+{
+    word32(bytes, at + 4) + word32(bytes, at) * 4294967296
 }
 
 // The two bytes at an offset of a page.

@@ -7,27 +7,43 @@ ghost use lib.Seq.{sets};
 ghost use Rattle.blockfile.specs.Bytes.{word16, word32, write, padded};
 ghost use Rattle.blockfile.specs.Marks.{marks};
 ghost use Rattle.pages.specs.Places.{Inside, Chunk};
+use crate::mark::MARK_LENGTHS;
+use crate::mark::MARKS;
 
-// A number as two bytes.
+// A number as two bytes of any slice.
+pub fn store16(bytes: &mut [u8], at: usize, v: usize)
+    requires { ⌜ at + 2 ≤ length (now bytes) ⌝ }
+    ensures { λ _. ⌜ now (bytes .exit) ≡ sets (now (bytes .entry)) at (word16 v) ⌝ }
+{
+    bytes[at] = (v / 256 % 256) as u8;
+    bytes[at + 1] = (v % 256) as u8;
+}
+
+// A number as four bytes of any slice.
+pub fn store32(bytes: &mut [u8], at: usize, v: usize)
+    requires { ⌜ at + 4 ≤ length (now bytes) ⌝ }
+    ensures { λ _. ⌜ now (bytes .exit) ≡ sets (now (bytes .entry)) at (word32 v) ⌝ }
+{
+    bytes[at] = (v / 16777216 % 256) as u8;
+    bytes[at + 1] = (v / 65536 % 256) as u8;
+    bytes[at + 2] = (v / 256 % 256) as u8;
+    bytes[at + 3] = (v % 256) as u8;
+}
+
+// A number as the two bytes at an offset of a page.
 pub fn put16(image: &mut [u8], page: usize, offset: usize, v: usize)
     requires { ⌜ Inside (now image) page offset 2 ⌝ }
     ensures { λ _. ⌜ now (image .exit) ≡ write (now (image .entry)) page offset (word16 v) ⌝ }
 {
-    let at = 1024 * (page - 1) + offset;
-    image[at] = (v / 256 % 256) as u8;
-    image[at + 1] = (v % 256) as u8;
+    store16(image, 1024 * (page - 1) + offset, v)
 }
 
-// A number as four bytes.
+// A number as the four bytes at an offset of a page.
 pub fn put32(image: &mut [u8], page: usize, offset: usize, v: usize)
     requires { ⌜ Inside (now image) page offset 4 ⌝ }
     ensures { λ _. ⌜ now (image .exit) ≡ write (now (image .entry)) page offset (word32 v) ⌝ }
 {
-    let at = 1024 * (page - 1) + offset;
-    image[at] = (v / 16777216 % 256) as u8;
-    image[at + 1] = (v / 65536 % 256) as u8;
-    image[at + 2] = (v / 256 % 256) as u8;
-    image[at + 3] = (v % 256) as u8;
+    store32(image, 1024 * (page - 1) + offset, v)
 }
 
 // All of src, over the bytes of any slice from `from` on.
@@ -69,10 +85,11 @@ pub fn put_mark(image: &mut [u8], page: usize, kind: usize)
     ensures { λ _. ⌜ now (image .exit) ≡ write (now (image .entry)) page 0 (getD marks kind []) ⌝ }
 {
     let at = 1024 * (page - 1);
-    let n = blockfile::MARK_LENGTHS[kind];
+    let mark = MARKS[kind];
+    let n = MARK_LENGTHS[kind];
     let mut i = 0;
     while i < n {
-        image[at + i] = blockfile::MARKS[8 * kind + i];
+        image[at + i] = ((mark >> (56 - 8 * i)) % 256) as u8;
         i += 1;
     }
 }

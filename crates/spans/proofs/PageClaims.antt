@@ -9,9 +9,9 @@ use lib.ListN.{length, take, getD}
 use Rattle.blockfile.specs.Bytes.{pg, be32, Every, firstOf}
 use Rattle.blockfile.specs.Marks.{spanMark, contMark, marks}
 use Rattle.blockfile.specs.Fields.{AreConts}
-use Rattle.heads.specs.Begins.{begins}
+use Rattle.pages.specs.Begins.{begins}
 use Rattle.heads.specs.Claims.{Room, Lent, Claimed, claimed}
-use Rattle.heads.proofs.Marks.{begins-take, take-begins}
+use Rattle.pages.proofs.Begins.{begins-take, take-begins}
 use Rattle.heads.proofs.Claims.{room-long}
 use Rattle.walks.specs.Found.{Open, Fresh, claims, unclaimed, FindsAt}
 use Rattle.walks.proofs.Founds.{length-claimed, unclaimed-most, open-claimable, SameAt, same-start, same-turn, finds-none, finds-done}

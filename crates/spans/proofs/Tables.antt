@@ -17,7 +17,7 @@ use Rattle.spans.specs.declared.Counted.the-variants.{Broken, Whole}
 use Rattle.spans.specs.Spans.{Rule, entriesIn, Counts, whole, SpansFound}
 use Rattle.spans.specs.Entries.{LastIs, Met}
 use Rattle.spans.specs.Parts.{Verified, VerifiedAll, ChainFound, SpansFrom}
-use Rattle.entries.proofs.Prefixes.{lead-none}
+use Rattle.pages.proofs.Words.{lead-none}
 use Rattle.spans.proofs.Sorts.{above-rising, rising-all, fits-key, fits-value, sized-most, every-fits}
 use Rattle.spans.proofs.Chains.{Fine, chain-join, chain-not, told, hi, onward, Fell, fell}
 

@@ -11,7 +11,8 @@ use Rattle.blockfile.specs.Order.{bytesBelow}
 use Rattle.entries.specs.declared.place.Place.{Place}
 use Rattle.entries.specs.declared.place.Sizes.{Sizes}
 use Rattle.entries.specs.Places.{Rest}
-use Rattle.entries.specs.Keys.{KeyAt, lead}
+use Rattle.pages.specs.Begins.{lead}
+use Rattle.entries.specs.Keys.{KeyAt}
 use Rattle.spans.specs.declared.entry.Last.{Last}
 use Rattle.spans.specs.declared.entry.Entered.{Entered}
 use Rattle.spans.specs.declared.entry.Entered.the-variants.{Bad, Read}

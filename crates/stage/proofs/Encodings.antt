@@ -1,10 +1,9 @@
--- The ways through `put16`, `put_lengths`, `put_new` and `put_old`: stores one behind another.
+-- The ways through `put_lengths`, `put_new` and `put_old`: stores one behind another.
 use Prim.Native.Nat.{ℕ, _+_, _-_, _≤_}
 use native.Mathlib.Omega.{arith}
-use native.Mathlib.Numerals.{add-one}
 use mathlib.Core.Path.{_≡_, refl, ap, sym, _∙_}
 use mathlib.Core.List.{List, [], _∷_, _++_, append-assoc, append-nil}
-use lib.ListN.{length, take, drop, set, replicate, length-append, length-replicate, length-drop, drop-of-length-le, replicate-append-replicate}
+use lib.ListN.{length, take, drop, replicate, length-append, length-replicate, length-drop, drop-of-length-le, replicate-append-replicate}
 use lib.Seq.{sets, sets-eq, take-at, take-all, drop-drop}
 use Rattle.blockfile.specs.Bytes.{word16}
 use Rattle.blockfile.specs.Layout.{Entry, lensAt, entryEnd}
@@ -18,11 +17,6 @@ use Rattle.search.specs.Spans.{EntryAt}
 use Rattle.search.proofs.Entries.{bytes-copied, bytes-length}
 use Rattle.stage.specs.Parts.{lengthBytes, Lengthened, EntryPut, Copyable}
 use Rattle.stage.proofs.Sections.{entry-sized, sized-end}
-
--- ---- put16
-
-pub store-two : (l : List ℕ) (i x y : ℕ) → set (set l i x) (i + 1) y ≡ sets l i (x ∷ y ∷ [])
-store-two l i x y = rw (add-one i)
 
 -- ---- put_lengths
 

@@ -1,9 +1,6 @@
 // Entries encoded in a buffer, as the stream of a span: 12 bytes for its header, then the entries.
-ghost use mathlib.Core.Path.{_≡_};
 ghost use Prim.Native.Nat.{_+_, _≤_};
 ghost use lib.ListN.{length};
-ghost use lib.Seq.{sets};
-ghost use Rattle.blockfile.specs.Bytes.{word16};
 ghost use Rattle.blockfile.specs.Layout.{lensAt, entryEnd};
 ghost use Rattle.stage.specs.Parts.{Lengthened, EntryPut, Copyable, OldPut, EntryStageable, EntryStaged, Stageable, Staged};
 use crate::change::Change;
@@ -14,16 +11,8 @@ use crate::measure::Part;
 use crate::measure::lens_at;
 use entries::place::Sizes;
 use pages::write::copy_bytes;
+use pages::write::store16;
 use reader::copy_from;
-
-// A number as two bytes.
-fn put16(stream: &mut [u8], at: usize, v: usize)
-    requires { ⌜ at + 2 ≤ length (now stream) ⌝ }
-    ensures { λ _. ⌜ now (stream .exit) ≡ sets (now (stream .entry)) at (word16 v) ⌝ }
-{
-    stream[at] = (v / 256 % 256) as u8;
-    stream[at + 1] = (v % 256) as u8;
-}
 
 // The lengths of an entry, and zeros before them where they do not begin at `end`. Answers where its key begins.
 fn put_lengths(stream: &mut [u8], end: usize, key: usize, value: usize) -> usize
@@ -34,8 +23,8 @@ fn put_lengths(stream: &mut [u8], end: usize, key: usize, value: usize) -> usize
     let zeros = [0; 3];
     let gap = lens - end;
     copy_bytes(stream, end, &zeros[..gap]);
-    put16(stream, lens, key);
-    put16(stream, lens + 2, value);
+    store16(stream, lens, key);
+    store16(stream, lens + 2, value);
     lens + 4
 }
 

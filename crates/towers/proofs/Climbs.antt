@@ -17,7 +17,7 @@ use Rattle.blockfile.specs.WellFormed.{Piece, tower, Bears, nextAt, linkTowers}
 use Rattle.laws.proofs.Chains.{entry-at, at-entries}
 use Rattle.heads.specs.Claims.{Lent, claimable, claimed, Claimed, InHead, head32}
 use Rattle.heads.proofs.Claims.{lent-claimed, in-head}
-use Rattle.heads.proofs.Marks.{begins-take, take-begins}
+use Rattle.pages.proofs.Begins.{begins-take, take-begins}
 use Rattle.walks.specs.declared.Walked.{Walked}
 use Rattle.walks.specs.declared.Walked.the-variants.{Refused, Done}
 use Rattle.walks.specs.Found.{Open, unclaimed, Found, Decides, FindsAt}

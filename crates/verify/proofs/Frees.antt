@@ -11,7 +11,7 @@ use Rattle.blockfile.specs.Layout.{Block, freeCount}
 use Rattle.blockfile.specs.Fields.{Numbers, IsBlock}
 use Rattle.blockfile.specs.WellFormed.{Piece, pagesOf, Bears, block, freePage, freePieces, firstBlock}
 use Rattle.heads.specs.Claims.{Lent, claimable, claimed, Claimed}
-use Rattle.heads.proofs.Marks.{begins-take, take-begins}
+use Rattle.pages.proofs.Begins.{begins-take, take-begins}
 use Rattle.walks.specs.declared.Walked.{Walked}
 use Rattle.walks.specs.declared.Walked.the-variants.{Refused, Done}
 use Rattle.walks.specs.Found.{Open, claims, unclaimed, Found, FindsAt}

@@ -25,7 +25,6 @@ use Rattle.walks.proofs.Once.{AllOpen, claimed-once, once-claimed}
 use Rattle.search.specs.Spans.{Borne}
 use Rattle.spans.specs.Spans.{Keys, ruleOf, sized}
 use Rattle.spans.proofs.PageClaims.{inside-fresh}
-use Rattle.verify.specs.declared.superblock.Superblock.{Superblock}
 use Rattle.verify.specs.declared.superblock.Started.{Started}
 use Rattle.verify.specs.declared.superblock.Started.the-variants.{Begun, Refused as Unstarted}
 use Rattle.verify.specs.declared.image.Verdict.the-variants.{Bad, Good}
@@ -100,9 +99,10 @@ pub record Listed (img : List ℕ) (p first : ℕ) (scr : List ℕ) (m : ℕ) (m
 
 module _ (img scr : List ℕ) (r : Started) (s : List ℕ) (f : FindsAt Begun (SuperFound img scr) r s) where
   super-of : (c : Counts) (out : List ℕ) (w : Whole img scr c out)
-      → SuperFound img scr (record { free = firstBlock (w .layout .free); size = w .layout .spanSize }) (claims scr (1 ∷ []))
+      → SuperFound img scr (firstBlock (w .layout .free)) (claims scr (1 ∷ []))
   super-of c out w =
       record {
+        size = w .layout .spanSize;
         range = w .spanSize;
         found = subst (λ (n : ℕ). Found img scr (superblock n (firstBlock (w .layout .free)) (w .layout .spanSize) ∷ []) (claims scr (1 ∷ []))) (w .pages)
             (found-first img scr (superblock (w .layout .pages) (firstBlock (w .layout .free)) (w .layout .spanSize) ∷ [])
@@ -111,18 +111,18 @@ module _ (img scr : List ℕ) (r : Started) (s : List ℕ) (f : FindsAt Begun (S
 
   pub no-super : r ≡ Unstarted → (c : Counts) (out : List ℕ) → Whole img scr c out → ⊥
   no-super e c out w =
-      let q : Unstarted ≡ Begun (record { free = firstBlock (w .layout .free); size = w .layout .spanSize }) = sym e ∙ f .complete _ _ (super-of c out w) .0 in
+      let q : Unstarted ≡ Begun (firstBlock (w .layout .free)) = sym e ∙ f .complete _ _ (super-of c out w) .0 in
       let z : _≡_ {A = ℕ} 0 1 = cc in
       omega arith
 
-  pub past-super : (a : Superblock) → r ≡ Begun a → SameAt (Tabled img (pagesIn scr) (a .free) s) (Whole img scr)
+  pub past-super : (a : ℕ) → r ≡ Begun a → SameAt (Tabled img (pagesIn scr) a s) (Whole img scr)
   past-super a e = record { to = to; back = back }
     where
-      to : (c : Counts) (out : List ℕ) → Tabled img (pagesIn scr) (a .free) s c out → Whole img scr c out
+      to : (c : Counts) (out : List ℕ) → Tabled img (pagesIn scr) a s c out → Whole img scr c out
       to c out t =
           let x : SuperFound img scr a s = f .sound a e in
           record {
-            layout = record { pages = pagesIn scr; spanSize = a .size; meta = t .meta; tables = t .tables; free = t .free };
+            layout = record { pages = pagesIn scr; spanSize = x .size; meta = t .meta; tables = t .tables; free = t .free };
             pages = refl;
             spanSize = x .range;
             metaPage = t .metaPage;
@@ -130,16 +130,16 @@ module _ (img scr : List ℕ) (r : Started) (s : List ℕ) (f : FindsAt Begun (S
             metaEntries = t .metaEntries;
             tablesOk = t .tablesOk;
             blocksOk = t .blocksOk;
-            found = found-join img scr (superblock (pagesIn scr) (firstBlock (t .free)) (a .size) ∷ []) (tablePieces (t .meta) ++ (tablesPieces (t .tables) ++ freePieces (t .free))) s out
-                (subst (λ (n : ℕ). Found img scr (superblock (pagesIn scr) n (a .size) ∷ []) s) (t .start) (x .found)) (t .found);
+            found = found-join img scr (superblock (pagesIn scr) (firstBlock (t .free)) (x .size) ∷ []) (tablePieces (t .meta) ++ (tablesPieces (t .tables) ++ freePieces (t .free))) s out
+                (subst (λ (n : ℕ). Found img scr (superblock (pagesIn scr) n (x .size) ∷ []) s) (t .start) (x .found)) (t .found);
             counts = t .counts;
           }
 
-      back : (c : Counts) (out : List ℕ) → Whole img scr c out → Tabled img (pagesIn scr) (a .free) s c out
+      back : (c : Counts) (out : List ℕ) → Whole img scr c out → Tabled img (pagesIn scr) a s c out
       back c out w =
           let d = f .complete _ _ (super-of c out w) in
-          let q : Begun a ≡ Begun (record { free = firstBlock (w .layout .free); size = w .layout .spanSize }) = sym e ∙ d .0 in
-          let i : a ≡ record { free = firstBlock (w .layout .free); size = w .layout .spanSize } = cc in
+          let q : Begun a ≡ Begun (firstBlock (w .layout .free)) = sym e ∙ d .0 in
+          let i : a ≡ firstBlock (w .layout .free) = cc in
           record {
             meta = w .layout .meta;
             tables = w .layout .tables;
@@ -148,7 +148,7 @@ module _ (img scr : List ℕ) (r : Started) (s : List ℕ) (f : FindsAt Begun (S
             metaOk = w .metaOk;
             metaEntries = w .metaEntries;
             tablesOk = w .tablesOk;
-            start = ap (λ (x : Superblock). x .free) i;
+            start = i;
             blocksOk = w .blocksOk;
             found = subst (λ (x : List ℕ). Found img x (tablePieces (w .layout .meta) ++ (tablesPieces (w .layout .tables) ++ freePieces (w .layout .free))) out) (sym (d .1))
                 (found-second img scr (superblock (w .layout .pages) (firstBlock (w .layout .free)) (w .layout .spanSize) ∷ [])
@@ -446,15 +446,15 @@ module _ (img scr : List ℕ) (headed : Headed img scr) (enough : 4096 ≤ lengt
     pub bad-super : r ≡ Unstarted → Judged img Bad
     bad-super q = bad (λ c out w e. no-super img scr r s f q c out w)
 
-    pub super-lent : (a : Superblock) → r ≡ Begun a → Lent img s
+    pub super-lent : (a : ℕ) → r ≡ Begun a → Lent img s
     super-lent a e = found-lent (headed .lent) (f .sound a e .found)
 
-    module _ (a : Superblock) (e : r ≡ Begun a) (r₁ : Walked) (s₁ : List ℕ) (f₁ : FindsAt Done (MetaFound img s) r₁ s₁) where
-      started : SameAt (Tabled img (pagesIn scr) (a .free) s) (Whole img scr)
+    module _ (a : ℕ) (e : r ≡ Begun a) (r₁ : Walked) (s₁ : List ℕ) (f₁ : FindsAt Done (MetaFound img s) r₁ s₁) where
+      started : SameAt (Tabled img (pagesIn scr) a s) (Whole img scr)
       started = past-super img scr r s f a e
 
       pub bad-meta : r₁ ≡ Refused → Judged img Bad
-      bad-meta q = bad (λ c out w e. no-meta img (pagesIn scr) (a .free) s r₁ s₁ f₁ q c out (started .back c out w))
+      bad-meta q = bad (λ c out w e. no-meta img (pagesIn scr) a s r₁ s₁ f₁ q c out (started .back c out w))
 
       module _ (m : ℕ) (e₁ : r₁ ≡ Done m) where
         pub meta-there : (meta : Table) × MetaOn img meta
@@ -467,25 +467,25 @@ module _ (img scr : List ℕ) (headed : Headed img scr) (enough : 4096 ≤ lengt
           walked : (x : MetaFound img s m s₁) → FindsAt Done (TablesFound img s₁ (entriesOf (x .table)) 0) r₂ s₂
           walked x = f₂ (x .table) (meta-on img s m s₁ (super-lent a e) x)
 
-          known : SameAt (Named img (pagesIn scr) (a .free) s m s₁) (Whole img scr)
-          known = same-turn (past-meta img (pagesIn scr) (a .free) s r₁ s₁ f₁ m e₁) started
+          known : SameAt (Named img (pagesIn scr) a s m s₁) (Whole img scr)
+          known = same-turn (past-meta img (pagesIn scr) a s r₁ s₁ f₁ m e₁) started
 
           pub bad-tables : r₂ ≡ Refused → Judged img Bad
-          bad-tables q = bad (λ c out w e. no-tables img (pagesIn scr) (a .free) s m s₁ r₂ s₂ walked q c out (known .back c out w))
+          bad-tables q = bad (λ c out w e. no-tables img (pagesIn scr) a s m s₁ r₂ s₂ walked q c out (known .back c out w))
 
           pub tables-lent : (k : ℕ) → r₂ ≡ Done k → Lent img s₂
           tables-lent k e₂ = found-lent meta-lent (walked (f₁ .sound m e₁) .sound k e₂ .found)
 
-          module _ (k : ℕ) (e₂ : r₂ ≡ Done k) (r₃ : Walked) (s₃ : List ℕ) (f₃ : FindsAt Done (FreeFound img s₂ (a .free) 0) r₃ s₃) where
-            tabled : SameAt (Listed img (pagesIn scr) (a .free) s m s₁ k s₂) (Whole img scr)
-            tabled = same-turn (past-tables img (pagesIn scr) (a .free) s m s₁ r₂ s₂ walked k e₂) known
+          module _ (k : ℕ) (e₂ : r₂ ≡ Done k) (r₃ : Walked) (s₃ : List ℕ) (f₃ : FindsAt Done (FreeFound img s₂ a 0) r₃ s₃) where
+            tabled : SameAt (Listed img (pagesIn scr) a s m s₁ k s₂) (Whole img scr)
+            tabled = same-turn (past-tables img (pagesIn scr) a s m s₁ r₂ s₂ walked k e₂) known
 
             pub bad-free : r₃ ≡ Refused → Judged img Bad
-            bad-free q = bad (λ c out w e. no-free img (pagesIn scr) (a .free) s m s₁ k s₂ r₃ s₃ f₃ q c out (tabled .back c out w))
+            bad-free q = bad (λ c out w e. no-free img (pagesIn scr) a s m s₁ k s₂ r₃ s₃ f₃ q c out (tabled .back c out w))
 
             module _ (n : ℕ) (e₃ : r₃ ≡ Done n) where
               only : (c : Counts) (out : List ℕ) → Whole img scr c out → (c ≡ counted (pagesIn scr) m k n) × (out ≡ s₃)
-              only c out w = free-only img (pagesIn scr) (a .free) s m s₁ k s₂ r₃ s₃ f₃ n e₃ c out (tabled .back c out w)
+              only c out w = free-only img (pagesIn scr) a s m s₁ k s₂ r₃ s₃ f₃ n e₃ c out (tabled .back c out w)
 
               pub bad-unowned : full s₃ ≡ false → Judged img Bad
               bad-unowned q = bad (λ c out w e. true≢false (sym e ∙ ap full (only c out w .1) ∙ q))
@@ -493,8 +493,8 @@ module _ (img scr : List ℕ) (headed : Headed img scr) (enough : 4096 ≤ lengt
               pub good : (p : ℕ) → p ≡ pagesIn scr → full s₃ ≡ true → Judged img (Good (counted p m k n))
               good p i q =
                   let x : MetaFound img s m s₁ = f₁ .sound m e₁ in
-                  let l : Listed img (pagesIn scr) (a .free) s m s₁ k s₂ (counted (pagesIn scr) m k n) s₃
-                  = free-there img (pagesIn scr) (a .free) s m s₁ k s₂ r₃ s₃ f₃ n e₃ x (walked x .sound k e₂) in
+                  let l : Listed img (pagesIn scr) a s m s₁ k s₂ (counted (pagesIn scr) m k n) s₃
+                  = free-there img (pagesIn scr) a s m s₁ k s₂ r₃ s₃ f₃ n e₃ x (walked x .sound k e₂) in
                   subst (λ (x : ℕ). Judged img (Good (counted x m k n))) (sym i)
                   (verdict-good img (pagesIn scr) size range scr all-open (counted (pagesIn scr) m k n) s₃
                   (tabled .to (counted (pagesIn scr) m k n) s₃ l) q

@@ -27,7 +27,8 @@ use Rattle.walks.proofs.Founds.{SameAt, same-start, same-turn, finds-none, find
 use Rattle.entries.specs.declared.place.Place.{Place}
 use Rattle.entries.specs.declared.place.Sizes.{Sizes}
 use Rattle.entries.specs.Places.{IsPage, Enough, Moved, gap, Measured, Numbered}
-use Rattle.entries.proofs.Octets.{Byte, bytes-at, bytes-take, bytes-rest}
+use Rattle.pages.proofs.Words.{Byte, bytes-at, bytes-take}
+use Rattle.entries.proofs.Octets.{bytes-rest}
 use Rattle.search.specs.Spans.{Borne, BytesAt, Along, EntryAt}
 use Rattle.entries.specs.Keys.{Key}
 use Rattle.search.proofs.Entries.{bytes-key, bytes-enough, bytes-length, along-enough, along-entry, entry-key, borne-along}

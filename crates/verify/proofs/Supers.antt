@@ -12,11 +12,10 @@ use Rattle.blockfile.specs.Fields.{IsSuperblock}
 use Rattle.blockfile.specs.WellFormed.{superblock}
 use Rattle.laws.proofs.Pages.{pg-at}
 use Rattle.heads.specs.Claims.{pagesIn, claimable, claimed, Claimed}
-use Rattle.heads.proofs.Marks.{begins-take, take-begins}
+use Rattle.pages.proofs.Begins.{begins-take, take-begins}
 use Rattle.walks.specs.Found.{Decides, FindsAt}
 use Rattle.walks.proofs.Founds.{decides-true, decides-false, same-start, finds-none, finds-done, found-none, claimable-open}
 use Rattle.walks.proofs.Pieces.{Single, found-claimable, found-rest, found-cons, claim-done, claim-not}
-use Rattle.verify.specs.declared.superblock.Superblock.{Superblock}
 use Rattle.verify.specs.declared.superblock.Started.the-variants.{Refused, Begun}
 use Rattle.verify.specs.Superblock.{Fixed, SuperFound}
 
@@ -52,30 +51,30 @@ super-single : (img : List ℕ) (p f z : ℕ) → Single img (superblock p f z) 
 unfolding superMark
 super-single img p f z = record { page = refl; mark = λ b. take-begins superMark (pg img 1) (b .mark) }
 
-begun-injective : (a b : Superblock) → Begun a ≡ Begun b → a ≡ b
+begun-injective : (a b : ℕ) → Begun a ≡ Begun b → a ≡ b
 begun-injective a b e = cc
 
-refused-never : (a : Superblock) → Refused ≡ Begun a → ⊥
+refused-never : (a : ℕ) → Refused ≡ Begun a → ⊥
 refused-never a e = let z : _≡_ {A = ℕ} 0 1 = cc in omega arith
 
 module _ (img scr : List ℕ) where
-  none : (s : List ℕ) → ((a : Superblock) (t : List ℕ) → SuperFound img scr a t → ⊥) → FindsAt Begun (SuperFound img scr) Refused s
+  none : (s : List ℕ) → ((a : ℕ) (t : List ℕ) → SuperFound img scr a t → ⊥) → FindsAt Begun (SuperFound img scr) Refused s
   none s n = finds-none Begun Refused s (same-start (SuperFound img scr)) refused-never n
 
-  fields : (a : Superblock) (t : List ℕ) → SuperFound img scr a t → IsSuperblock (pagesIn scr) (a .free) (a .size) (pg img 1)
+  fields : (a : ℕ) (t : List ℕ) (f : SuperFound img scr a t) → IsSuperblock (pagesIn scr) a (f .size) (pg img 1)
   fields a t f = f .found .bears .0
 
   module _ (r : Bool) (s : List ℕ) (c : Claimed img scr 1 0 r s) where
     pub super-no : r ≡ false → FindsAt Begun (SuperFound img scr) Refused s
     super-no e =
         none s (λ a t f. true≢false
-        (sym (found-claimable img scr (superblock (pagesIn scr) (a .free) (a .size)) 1 0 (super-single img _ _ _) [] t (f .found)) ∙ claim-not img scr 1 0 r s c e))
+        (sym (found-claimable img scr (superblock (pagesIn scr) a (f .size)) 1 0 (super-single img _ _ _) [] t (f .found)) ∙ claim-not img scr 1 0 r s c e))
 
     module _ (e : r ≡ true) (n : ℕ) (is : n ≡ pagesIn scr) (q : Bool) (d : Decides (Fixed n (pg img 1)) q) where
       pub super-unfixed : q ≡ false → FindsAt Begun (SuperFound img scr) Refused s
       super-unfixed h =
           none s (λ a t f.
-          let i : IsSuperblock (pagesIn scr) (a .free) (a .size) (pg img 1) = fields a t f in
+          let i : IsSuperblock (pagesIn scr) a (f .size) (pg img 1) = fields a t f in
           true≢false
           (sym (d .complete (subst (λ (m : ℕ). Fixed m (pg img 1)) (sym is) (record { major = i .major; minor = i .minor; fileLength = i .fileLength; pageSize = i .pageSize })))
           ∙ h))
@@ -86,13 +85,13 @@ module _ (img scr : List ℕ) where
       pub super-size : (Within 2 128 (be16 (pg img 1) 22) → ⊥) → FindsAt Begun (SuperFound img scr) Refused s
       super-size h = none s (λ a t f. let i = fields a t f in h (subst (Within 2 128) (sym (i .spanSize)) (f .range)))
 
-      pub super-done : q ≡ true → be16 (pg img 1) 20 ≤ 1 → (a : Superblock) → a .free ≡ be32 (pg img 1) 16 → a .size ≡ be16 (pg img 1) 22 → Within 2 128 (a .size)
+      pub super-done : q ≡ true → be16 (pg img 1) 20 ≤ 1 → (a : ℕ) → a ≡ be32 (pg img 1) 16 → (z : ℕ) → z ≡ be16 (pg img 1) 22 → Within 2 128 z
           → FindsAt Begun (SuperFound img scr) (Begun a) s
       unfolding superMark
-      super-done h m a fr sz w =
+      super-done h m a fr z sz w =
           let k : (claimable img scr 1 0 ≡ true) × (s ≡ claimed scr 1) = claim-done img scr 1 0 r s c e in
           let x : Fixed (pagesIn scr) (pg img 1) = subst (λ (p : ℕ). Fixed p (pg img 1)) is (d .sound h) in
-          let b : IsSuperblock (pagesIn scr) (a .free) (a .size) (pg img 1) =
+          let b : IsSuperblock (pagesIn scr) a z (pg img 1) =
           record {
             mark = begins-take superMark (pg img 1) (claimable-open img scr 1 0 (k .0) .1);
             major = x .major;
@@ -105,11 +104,12 @@ module _ (img scr : List ℕ) where
           } in
           finds-done Begun (Begun a) s (same-start (SuperFound img scr)) begun-injective a refl
           (record {
+            size = z;
             range = w;
-            found = rw (k .1) (found-cons img scr (superblock (pagesIn scr) (a .free) (a .size)) 1 0 (super-single img _ _ _) [] (claimed scr 1) (k .0) b (found-none img (claimed scr 1)));
+            found = rw (k .1) (found-cons img scr (superblock (pagesIn scr) a z) 1 0 (super-single img _ _ _) [] (claimed scr 1) (k .0) b (found-none img (claimed scr 1)));
           })
           (λ o t f.
-          let i : IsSuperblock (pagesIn scr) (o .free) (o .size) (pg img 1) = fields o t f in (
-            (λ j. record { free = (fr ∙ i .free) j; size = (sz ∙ i .spanSize) j }),
-            k .1 ∙ sym (found-rest img scr (superblock (pagesIn scr) (o .free) (o .size)) 1 0 (super-single img _ _ _) [] t (f .found) .left),
+          let i : IsSuperblock (pagesIn scr) o (f .size) (pg img 1) = fields o t f in (
+            fr ∙ i .free,
+            k .1 ∙ sym (found-rest img scr (superblock (pagesIn scr) o (f .size)) 1 0 (super-single img _ _ _) [] t (f .found) .left),
           ))

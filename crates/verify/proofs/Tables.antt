@@ -14,7 +14,7 @@ use Rattle.blockfile.specs.Order.{Within}
 use Rattle.blockfile.specs.Fields.{SkipList, IsSkipList}
 use Rattle.blockfile.specs.WellFormed.{span, tower, skipList, pagesOf, linkSpans, linkTowers, spansIn, towersIn, skipListOf}
 use Rattle.heads.specs.Claims.{Lent, claimable, claimed, Claimed}
-use Rattle.heads.proofs.Marks.{begins-take, take-begins}
+use Rattle.pages.proofs.Begins.{begins-take, take-begins}
 use Rattle.walks.specs.declared.Walked.{Walked}
 use Rattle.walks.specs.declared.Walked.the-variants.{Refused, Done}
 use Rattle.walks.specs.Found.{claims, Found, Decides, FindsAt}

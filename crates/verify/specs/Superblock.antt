@@ -8,7 +8,6 @@ use Rattle.blockfile.specs.Order.{Within}
 use Rattle.blockfile.specs.WellFormed.{superblock}
 use Rattle.heads.specs.Claims.{pagesIn}
 use Rattle.walks.specs.Found.{Found}
-use Rattle.verify.specs.declared.superblock.Superblock.{Superblock}
 
 -- the fields that are the same in every image of p pages
 pub record Fixed (p : ℕ) (b : List ℕ) : Type 0 where
@@ -17,7 +16,8 @@ pub record Fixed (p : ℕ) (b : List ℕ) : Type 0 where
   pub fileLength : be64 b 8 ≡ 1024 * p
   pub pageSize : be32 b 24 ≡ 1024
 
--- the superblock is on page 1, which can be claimed
-pub record SuperFound (img scr : List ℕ) (a : Superblock) (out : List ℕ) : Type 0 where
-  pub range : Within 2 128 (a .size)
-  pub found : Found img scr (superblock (pagesIn scr) (a .free) (a .size) ∷ []) out
+-- the superblock is on page 1, which can be claimed, with this first free-list page
+pub record SuperFound (img scr : List ℕ) (first : ℕ) (out : List ℕ) : Type 0 where
+  pub size : ℕ
+  pub range : Within 2 128 size
+  pub found : Found img scr (superblock (pagesIn scr) first size ∷ []) out

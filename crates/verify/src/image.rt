@@ -25,7 +25,7 @@ fn judge(image: &[u8], scratch: &mut [u8]) -> Verdict
     requires { ⌜ Headed (now image) (now scratch) × (4096 ≤ length (now image)) ⌝ }
     ensures { λ r. ⌜ Judged (now (image .entry)) r ⌝ }
 {
-    let Started::Begun(s) = verify_superblock(image, scratch) else {
+    let Started::Begun(first) = verify_superblock(image, scratch) else {
         return Verdict::Bad;
     };
     let Walked::Done(tables) = verify_table(image, scratch, METAINDEX) else {
@@ -34,7 +34,7 @@ fn judge(image: &[u8], scratch: &mut [u8]) -> Verdict
     let Walked::Done(keys) = verify_tables(image, scratch) else {
         return Verdict::Bad;
     };
-    let Walked::Done(free) = verify_free(image, scratch, s.free) else {
+    let Walked::Done(free) = verify_free(image, scratch, first) else {
         return Verdict::Bad;
     };
     if !all_claimed(scratch) {

@@ -13,15 +13,10 @@ use pages::mark::SUPERBLOCK;
 use pages::read::get16;
 use pages::read::get32;
 
-// What the rest of the image goes by: the first free-list page or 0, and the span size.
-pub struct Superblock {
-    pub free: usize,
-    pub size: usize,
-}
-
+// Refused, or the first free-list page, 0 for none.
 pub enum Started {
     Refused,
-    Begun(Superblock),
+    Begun(usize),
 }
 
 // Whether the version is 1.2, the file length that of the pages, and the page size 1024.
@@ -66,6 +61,5 @@ pub fn verify_superblock(image: &[u8], scratch: &mut [u8]) -> Started
     if 128 < size {
         return Started::Refused;
     }
-    let free = get32(image, 1, 16);
-    Started::Begun(Superblock { free, size })
+    Started::Begun(get32(image, 1, 16))
 }

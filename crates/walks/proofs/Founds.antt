@@ -16,7 +16,7 @@ use Rattle.blockfile.specs.WellFormed.{Piece, pagesOf, Bears}
 use Rattle.blockfile.proofs.Bools.{so, holds, and-both}
 use Rattle.blockfile.proofs.Every.{every-left, every-right, every-join}
 use Rattle.blockfile.proofs.Owned.{ownedBy, owned-append}
-use Rattle.heads.specs.Begins.{begins}
+use Rattle.pages.specs.Begins.{begins}
 use Rattle.heads.specs.Claims.{Lent, claimable, claimed}
 use Rattle.heads.proofs.Claims.{lent-claimed}
 use Rattle.walks.specs.declared.Walked.the-variants.{Refused, Done}

@@ -9,7 +9,7 @@ use Rattle.blockfile.specs.Bytes.{pg, be16, be32, gather}
 use Rattle.blockfile.specs.Marks.{marks}
 use Rattle.blockfile.specs.WellFormed.{Piece, pagesOf, Bears}
 use Rattle.pages.specs.Places.{Inside, Number}
-use Rattle.heads.specs.Begins.{begins}
+use Rattle.pages.specs.Begins.{begins}
 use Rattle.heads.specs.Claims.{Lent, InHead, Claimed, claimable, claimed, head16, head32}
 use Rattle.heads.proofs.Claims.{lent-claimed, in-head, head16-read, head32-read}
 use Rattle.walks.specs.Found.{Open, Fresh, claims, unclaimed, Found}

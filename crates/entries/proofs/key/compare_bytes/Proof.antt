@@ -17,11 +17,11 @@ abbrev μ-loop : tie.MeasureT-loop
 same-words-requires : tie.Need-same-words-requires Inv-loop μ-loop
 same-words-requires c κs = let e = c .same-start .ensures in alike-start (c .before .least .ensures) _ (e .0) (e .1)
 
-word-requires : tie.Need-word-requires Inv-loop μ-loop
-word-requires c κs = omega (arith, c .before .same-words .ensures .least .first)
+word64-requires : tie.Need-word64-requires Inv-loop μ-loop
+word64-requires c κs = omega (arith, c .before .same-words .ensures .least .first)
 
-word-requires-2 : tie.Need-word-requires-2 Inv-loop μ-loop
-word-requires-2 c κs = omega (arith, c .before .before .same-words .ensures .least .second)
+word64-requires-2 : tie.Need-word64-requires-2 Inv-loop μ-loop
+word64-requires-2 c κs = omega (arith, c .before .before .same-words .ensures .least .second)
 
 -- the two words, from two lists of bytes
 returns : tie.Need-returns Inv-loop μ-loop
@@ -30,7 +30,7 @@ returns c =
     let same = w .before .before .before in
     let known = same .before .before .before in
     word-less (λ i. omega (arith, known .before .shared-slice-known .given i)) (λ i. omega (arith, known .shared-slice-known2 .given i)) (same .same-words .ensures)
-    (w .before .word .ensures) (w .word2 .ensures) (c .if2 .taken)
+    (w .before .word64 .ensures) (w .word642 .ensures) (c .if2 .taken)
 
 returns-2 : tie.Need-returns-2 Inv-loop μ-loop
 returns-2 c =
@@ -38,7 +38,7 @@ returns-2 c =
     let same = w .before .before .before in
     let known = same .before .before .before in
     word-greater (λ i. omega (arith, known .before .shared-slice-known .given i)) (λ i. omega (arith, known .shared-slice-known2 .given i)) (same .same-words .ensures)
-    (w .before .word .ensures) (w .word2 .ensures) (c .if3 .taken)
+    (w .before .word64 .ensures) (w .word642 .ensures) (c .if3 .taken)
 
 loop-holds : tie.Need-loop-holds Inv-loop μ-loop
 loop-holds c = c .before .same-words .ensures
@@ -71,8 +71,8 @@ compare-bytes-spec =
     (λ c κs. (c .least .ensures .first, c .least .ensures .second))
     same-words-requires
     (λ c. omega arith)
-    word-requires
-    word-requires-2
+    word64-requires
+    word64-requires-2
     returns
     returns-2
     loop-holds

@@ -1,15 +1,12 @@
--- `pages::write::put16` meets its contract.
-use native.Mathlib.Omega.{arith}
-use lib.ListN.{length-set}
+-- `pages::write::put16` meets its contract: an offset of a page is a place in the image.
+use mathlib.Core.Path.{sym, _∙_}
 use borrow.Author.Needs.{needs}
-use Rattle.blockfile.specs.Bytes.{word16}
-use Rattle.pages.proofs.Stores.{put-two}
+use Rattle.laws.proofs.Pages.{write-from}
 use Rattle.pages.proofs.write.put16.Statement.{statement}
 use Rattle.pages.proofs.write.put16.Tie as tie
 
 returns : tie.Need-returns
-unfolding word16
-returns c = put-two _ (c .args .page) (c .args .offset) (omega arith) _ _
+returns c = let p = c .before .before in p .store16 .ensures ∙ sym (write-from _ _ _ _ (p .before .before .before .pre .low))
 
 pub put16-spec : {M : Type 1} → statement M
 put16-spec =
@@ -18,10 +15,6 @@ put16-spec =
     (λ c. search needs)
     (λ c. search needs)
     (λ c. search needs)
-    (λ c. search needs)
-    (λ c. search needs)
-    (λ c. search needs)
-    (λ c. search needs)
-    (λ c. simp length-set (omega arith))
+    (λ c κs. search needs)
     (λ c. search needs)
     returns)

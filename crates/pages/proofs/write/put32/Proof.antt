@@ -1,15 +1,12 @@
--- `pages::write::put32` meets its contract.
-use native.Mathlib.Omega.{arith}
-use lib.ListN.{length-set}
+-- `pages::write::put32` meets its contract: an offset of a page is a place in the image.
+use mathlib.Core.Path.{sym, _∙_}
 use borrow.Author.Needs.{needs}
-use Rattle.blockfile.specs.Bytes.{word32}
-use Rattle.pages.proofs.Stores.{put-four}
+use Rattle.laws.proofs.Pages.{write-from}
 use Rattle.pages.proofs.write.put32.Statement.{statement}
 use Rattle.pages.proofs.write.put32.Tie as tie
 
 returns : tie.Need-returns
-unfolding word32
-returns c = put-four _ (c .args .page) (c .args .offset) (omega arith) _ _ _ _
+returns c = let p = c .before .before in p .store32 .ensures ∙ sym (write-from _ _ _ _ (p .before .before .before .pre .low))
 
 pub put32-spec : {M : Type 1} → statement M
 put32-spec =
@@ -18,16 +15,6 @@ put32-spec =
     (λ c. search needs)
     (λ c. search needs)
     (λ c. search needs)
-    (λ c. search needs)
-    (λ c. search needs)
-    (λ c. search needs)
-    (λ c. search needs)
-    (λ c. simp length-set (omega arith))
-    (λ c. search needs)
-    (λ c. search needs)
-    (λ c. simp length-set (omega arith))
-    (λ c. search needs)
-    (λ c. search needs)
-    (λ c. simp length-set (omega arith))
+    (λ c κs. search needs)
     (λ c. search needs)
     returns)

@@ -1,4 +1,4 @@
--- `pages::write::put_mark` meets its contract: the table's bytes are the mark's.
+-- `pages::write::put_mark` meets its contract: the bytes of the table's number are the mark's.
 use Prim.Native.Nat.{_-_}
 use native.Mathlib.Omega.{arith}
 use mathlib.Core.List.{[]}
@@ -10,13 +10,10 @@ use Rattle.pages.proofs.write.put_mark.Statement.{statement}
 use Rattle.pages.proofs.write.put_mark.Tie as tie
 
 abbrev Inv-loop : tie.InvT-loop
-Inv-loop image₀ page kind at n i₀ image i = Stored image₀ page 0 (getD marks kind []) n at image i
+Inv-loop image₀ page kind at mark n i₀ image i = Stored image₀ page 0 (getD marks kind []) n at image i
 
 abbrev μ-loop : tie.MeasureT-loop
-μ-loop image₀ page kind at n i₀ image i = n - i
-
-array-read-image : tie.Need-array-read-image Inv-loop μ-loop
-array-read-image c = omega (arith, mark-short _ (c .before .before .pre .0))
+μ-loop image₀ page kind at mark n i₀ image i = n - i
 
 slice-write-image : tie.Need-slice-write-image Inv-loop μ-loop
 slice-write-image c = omega (arith, mark-short _ (c .before .before .pre .0))
@@ -40,10 +37,13 @@ put-mark-spec =
     (λ c. omega arith)
     (λ c. omega arith)
     (λ c. omega arith)
-    loop-holds
     (λ c. omega arith)
+    (λ c. omega arith)
+    loop-holds
     (λ c. omega (arith, mark-short _ (c .before .before .pre .0)))
-    array-read-image
+    (λ c. omega (arith, mark-short _ (c .before .before .pre .0)))
+    (λ c. omega arith)
+    (λ c. omega arith)
     (λ c. omega (arith, mark-short _ (c .before .before .pre .0)))
     slice-write-image
     (λ c. omega (arith, mark-short _ (c .before .before .pre .0)))

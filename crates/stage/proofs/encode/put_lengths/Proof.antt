@@ -21,7 +21,7 @@ returns c =
     let two = three .before .before .before .before in
     let one = two .before .before .before .before in
     let l = one .before .before .before in
-    lengths-put _ _ _ _ _ (l .lens-at .ensures .0) (l .lens-at .ensures .2) (one .copy-bytes .ensures) (two .put16 .ensures) (three .put162 .ensures)
+    lengths-put _ _ _ _ _ (l .lens-at .ensures .0) (l .lens-at .ensures .2) (one .copy-bytes .ensures) (two .store16 .ensures) (three .store162 .ensures)
 
 pub put-lengths-spec : {M : Type 1} → statement M
 put-lengths-spec =

@@ -9,8 +9,8 @@ use Rattle.verify.proofs.image.judge.Tie as tie
 verify-superblock-requires : tie.Need-verify-superblock-requires
 verify-superblock-requires c κs = search needs
 
-enum-known-s : tie.Need-enum-known-s
-enum-known-s c = search needs
+enum-known-first : tie.Need-enum-known-first
+enum-known-first c = search needs
 
 enum-told : tie.Need-enum-told
 enum-told c = search needs
@@ -28,7 +28,7 @@ verify-table-requires : tie.Need-verify-table-requires
 verify-table-requires c κs =
     let started = c .before .before .before .before .before .before in
     let p = started .before .before .before .before .pre in
-    super-lent _ _ (p .0) (p .1) _ _ (started .verify-superblock .ensures) _ (c .before .before .s .given .1)
+    super-lent _ _ (p .0) (p .1) _ _ (started .verify-superblock .ensures) _ (c .before .before .first .given .1)
 
 enum-known-tables : tie.Need-enum-known-tables
 enum-known-tables c = search needs
@@ -44,14 +44,14 @@ returns-2 c =
     let meta = c .before .before .before .before in
     let started = meta .before .before .before .before .before .before .before in
     let p = started .before .before .before .before .pre in
-    bad-meta _ _ (p .0) (p .1) _ _ (started .verify-superblock .ensures) _ (meta .before .before .before .s .given .1) _ _ (meta .verify-table .ensures) (c .enum-told2 .given .1)
+    bad-meta _ _ (p .0) (p .1) _ _ (started .verify-superblock .ensures) _ (meta .before .before .before .first .given .1) _ _ (meta .verify-table .ensures) (c .enum-told2 .given .1)
 
 verify-tables-requires : tie.Need-verify-tables-requires
 verify-tables-requires c κs =
     let meta = c .before .before .before .before .before .before in
     let started = meta .before .before .before .before .before .before .before in
     let p = started .before .before .before .before .pre in
-    let there = meta .before .before .before .s .given .1 in (
+    let there = meta .before .before .before .first .given .1 in (
       meta-lent _ _ (p .0) (p .1) _ _ (started .verify-superblock .ensures) _ there _ _ (meta .verify-table .ensures) _ (c .before .before .tables .given .1),
       meta-there _ _ (p .0) (p .1) _ _ (started .verify-superblock .ensures) _ there _ _ (meta .verify-table .ensures) _ (c .before .before .tables .given .1),
     )
@@ -71,7 +71,7 @@ returns-3 c =
     let meta = tables .before .before .before .before .before .before .before in
     let started = meta .before .before .before .before .before .before .before in
     let p = started .before .before .before .before .pre in
-    bad-tables _ _ (p .0) (p .1) _ _ (started .verify-superblock .ensures) _ (meta .before .before .before .s .given .1) _ _ (meta .verify-table .ensures) _ (tables .before .before .before .tables .given .1)
+    bad-tables _ _ (p .0) (p .1) _ _ (started .verify-superblock .ensures) _ (meta .before .before .before .first .given .1) _ _ (meta .verify-table .ensures) _ (tables .before .before .before .tables .given .1)
     _ _ (tables .verify-tables .ensures) (c .enum-told3 .given .1)
 
 verify-free-requires : tie.Need-verify-free-requires
@@ -80,7 +80,7 @@ verify-free-requires c κs =
     let meta = tables .before .before .before .before .before .before .before in
     let started = meta .before .before .before .before .before .before .before in
     let p = started .before .before .before .before .pre in
-    tables-lent _ _ (p .0) (p .1) _ _ (started .verify-superblock .ensures) _ (meta .before .before .before .s .given .1) _ _ (meta .verify-table .ensures) _ (tables .before .before .before .tables .given .1)
+    tables-lent _ _ (p .0) (p .1) _ _ (started .verify-superblock .ensures) _ (meta .before .before .before .first .given .1) _ _ (meta .verify-table .ensures) _ (tables .before .before .before .tables .given .1)
     _ _ (tables .verify-tables .ensures) _ (c .before .before .keys .given .1)
 
 enum-known-free : tie.Need-enum-known-free
@@ -99,7 +99,7 @@ returns-4 c =
     let meta = tables .before .before .before .before .before .before .before in
     let started = meta .before .before .before .before .before .before .before in
     let p = started .before .before .before .before .pre in
-    bad-free _ _ (p .0) (p .1) _ _ (started .verify-superblock .ensures) _ (meta .before .before .before .s .given .1) _ _ (meta .verify-table .ensures) _ (tables .before .before .before .tables .given .1)
+    bad-free _ _ (p .0) (p .1) _ _ (started .verify-superblock .ensures) _ (meta .before .before .before .first .given .1) _ _ (meta .verify-table .ensures) _ (tables .before .before .before .tables .given .1)
     _ _ (tables .verify-tables .ensures) _ (free .before .before .before .keys .given .1) _ _ (free .verify-free .ensures) (c .enum-told4 .given .1)
 
 all-claimed-requires : tie.Need-all-claimed-requires
@@ -115,7 +115,7 @@ returns-5 c =
     let meta = tables .before .before .before .before .before .before .before in
     let started = meta .before .before .before .before .before .before .before in
     let p = started .before .before .before .before .pre in
-    bad-unowned _ _ (p .0) (p .1) _ _ (started .verify-superblock .ensures) _ (meta .before .before .before .s .given .1) _ _ (meta .verify-table .ensures) _ (tables .before .before .before .tables .given .1)
+    bad-unowned _ _ (p .0) (p .1) _ _ (started .verify-superblock .ensures) _ (meta .before .before .before .first .given .1) _ _ (meta .verify-table .ensures) _ (tables .before .before .before .tables .given .1)
     _ _ (tables .verify-tables .ensures) _ (free .before .before .before .keys .given .1) _ _ (free .verify-free .ensures) _ (c .before .before .before .before .free .given .1)
     (sym (c .before .all-claimed .ensures) ∙ not-true _ (c .if1 .taken))
 
@@ -129,7 +129,7 @@ returns-6 c =
     let meta = tables .before .before .before .before .before .before .before in
     let started = meta .before .before .before .before .before .before .before in
     let p = started .before .before .before .before .pre in
-    good _ _ (p .0) (p .1) _ _ (started .verify-superblock .ensures) _ (meta .before .before .before .s .given .1) _ _ (meta .verify-table .ensures) _ (tables .before .before .before .tables .given .1)
+    good _ _ (p .0) (p .1) _ _ (started .verify-superblock .ensures) _ (meta .before .before .before .first .given .1) _ _ (meta .verify-table .ensures) _ (tables .before .before .before .tables .given .1)
     _ _ (tables .verify-tables .ensures) _ (free .before .before .before .keys .given .1) _ _ (free .verify-free .ensures) _ (c .before .before .before .before .free .given .1)
     _ (omega (arith, p .0 .lent .room .size))
     (sym (c .before .all-claimed .ensures) ∙ not-false _ (c .if1 .left))
@@ -139,7 +139,7 @@ judge-spec =
     tie.close
     (tie.spec
     verify-superblock-requires
-    enum-known-s
+    enum-known-first
     enum-told
     same-length
     returns

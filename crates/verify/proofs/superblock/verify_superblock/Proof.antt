@@ -79,7 +79,7 @@ returns-6 c =
     super-done _ _ _ _ (claim (d .before .before .before)) (not-false _ (d .if1 .left)) _ (counted (d .before .before .before)) _ (f .is-fixed .ensures)
     (not-false _ (m .before .before .if2 .left))
     (omega (arith, m .before .get16 .ensures .is))
-    _ (c .get32 .ensures .is) (c .before .before .before .get162 .ensures .is) (omega arith)
+    _ (c .get32 .ensures .is) _ (c .before .before .before .get162 .ensures .is) (omega arith)
 
 pub verify-superblock-spec : {M : Type 1} → statement M
 verify-superblock-spec =
