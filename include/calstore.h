@@ -38,7 +38,7 @@ enum calstore_refusal {
 /* What a call answers. Numbers that an answer has not are 0. */
 struct calstore_answer {
     uint32_t number; /* 0 if the call was done, else a calstore_refusal */
-    uint32_t page;   /* 0 */
+    uint32_t page;   /* 0 in this version: room for the page that a refusal is about */
     uint64_t length; /* the length of the value or key, also with CALSTORE_BUFFER_SHORT */
     uint64_t pages;  /* check: the pages of the image */
     uint64_t tables; /* check: the tables */
