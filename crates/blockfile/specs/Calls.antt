@@ -56,7 +56,7 @@ pub data Called (op : Op) (img scratch : List ℕ) (room : ℕ) (o : Outcome) (s
       → o ≡ outcomeOn L op room → scratch′ ≡ cleared (length img) scratch → Called op img scratch room o scratch′
 
 -- a call's promise: the numbers of its result and every byte of image, scratch and answer buffer after it. Nothing is left open:
--- an image has at most one layout (crate laws, Unique), so the promise determines them (Determined)
+-- an image has at most one layout, so the promise determines them (crate laws, Claims: `OneLayout`, `Determined`)
 pub record Keeps (op : Op) (img scratch buffer : List ℕ) (reply : Reply) (img′ scratch′ buffer′ : List ℕ) : Type 0 where
   pub outcome : Outcome
   pub called : Called op img scratch (length buffer) outcome scratch′

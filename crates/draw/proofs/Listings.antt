@@ -8,7 +8,8 @@ use lib.ListN.{length, take, drop, length-take}
 use lib.Seq.{sets, sets-eq}
 use Rattle.blockfile.specs.Bytes.{word32, Every, gather}
 use Rattle.blockfile.specs.Fields.{Numbers}
-use Rattle.laws.proofs.Lists.{Apart, sets-append, agree-off}
+use Rattle.laws.specs.Lists.{Apart}
+use Rattle.laws.proofs.Lists.{sets-append, agree-off}
 use Rattle.laws.proofs.Numbers.{be32-agree}
 use Rattle.laws.proofs.Places.{gather-append}
 use Rattle.laws.proofs.FreeRead.{numbers-at}

@@ -16,7 +16,8 @@ use Rattle.laws.proofs.Steps.{Holds}
 use Rattle.laws.proofs.SpanLinks.{linkBetween, spansTo, spansPast, spans-before, link-between, length-between}
 use Rattle.laws.proofs.Inside.{spans-few}
 use Rattle.laws.proofs.Opens.{opens, thingPieces, allPieces, to-pieces}
-use Rattle.laws.proofs.Spots.{Around, tablesHeld, surrounds, held-at, values, inOption, Spot, spot}
+use Rattle.laws.specs.Owned.{inOption}
+use Rattle.laws.proofs.Spots.{Around, tablesHeld, surrounds, held-at, values, Spot, spot}
 use Rattle.laws.proofs.TableCreate.{names-rising}
 use Rattle.laws.proofs.Rewrites.{spansLeft, spansRight}
 use Rattle.laws.proofs.DrawnRewrites.{let-go}

@@ -14,7 +14,8 @@ use borrow.Author.Tests.{eq-eqb, ne-eqb, le-leb, lt-leb, lt-ltb, le-ltb, eqb-tru
 use Rattle.blockfile.specs.Bytes.{pg, be16, be32}
 use Rattle.blockfile.specs.Marks.{marks}
 use Rattle.pages.specs.Places.{Number}
-use Rattle.laws.proofs.Lists.{Agree, agree-in, agree-off}
+use Rattle.laws.specs.Lists.{Agree}
+use Rattle.laws.proofs.Lists.{agree-in, agree-off}
 use Rattle.laws.proofs.Numbers.{be16-agree, be32-agree}
 use Rattle.laws.proofs.Pages.{pg-at, length-pg}
 use Rattle.pages.specs.Begins.{begins}
@@ -83,21 +84,28 @@ not-first scr j k o whole inside own e =
     (λ l. let f = head-last (pagesIn scr) k {o = o} (omega arith) in omega (arith, f, e, whole))
 
 -- a head is copied in two parts, by way of a list of its own
-module _ {img own head scr mid : List ℕ} (j : ℕ) {out : List ℕ} (inside : 20 * j < length scr) (whole : length scr ≡ 20 * pagesIn scr)
-    (c : Copied img (1024 * j) own 0 20 head) (d : Copied head 0 scr (16 * j) 16 mid) (e : Copied head 16 mid (16 * pagesIn scr + 4 * j) 4 out) where
+pub record InParts (img scr : List ℕ) (j : ℕ) (out : List ℕ) : Type 0 where
+  pub own : List ℕ
+  pub head : List ℕ
+  pub mid : List ℕ
+  pub all : Copied img (1024 * j) own 0 20 head
+  pub first : Copied head 0 scr (16 * j) 16 mid
+  pub last : Copied head 16 mid (16 * pagesIn scr + 4 * j) 4 out
+
+module _ {img scr : List ℕ} {j : ℕ} {out : List ℕ} (inside : 20 * j < length scr) (whole : length scr ≡ 20 * pagesIn scr) (p : InParts img scr j out) where
   byte-at : (o : ℕ) → o < 20 → getD out (headAt (pagesIn scr) j o) 0 ≡ getD img (1024 * j + o) 0
   byte-at o h =
       by-cases (decLt o 16)
-      (λ l. rw (head-first (pagesIn scr) j l) (e .before (16 * j + o) (omega (arith, whole)) ∙ d .done o l ∙ c .done o h))
+      (λ l. rw (head-first (pagesIn scr) j l) (p .last .before (16 * j + o) (omega (arith, whole)) ∙ p .first .done o l ∙ p .all .done o h))
       (λ l. let n : 0 + o ≡ 16 + (o - 16) = omega arith in
-      rw (head-last (pagesIn scr) j {o = o} (omega arith)) (e .done (o - 16) (omega arith) ∙ ap (λ (x : ℕ). getD head x 0) (sym n) ∙ c .done o h))
+      rw (head-last (pagesIn scr) j {o = o} (omega arith)) (p .last .done (o - 16) (omega arith) ∙ ap (λ (x : ℕ). getD (p .head) x 0) (sym n) ∙ p .all .done o h))
 
   kept-at : (k o : ℕ) → k < j → o < 20 → getD out (headAt (pagesIn scr) k o) 0 ≡ getD scr (headAt (pagesIn scr) k o) 0
   kept-at k o m h =
       by-cases (decLt o 16)
-      (λ l. rw (head-first (pagesIn scr) k l) (e .before (16 * k + o) (omega (arith, whole)) ∙ d .before (16 * k + o) (omega arith)))
+      (λ l. rw (head-first (pagesIn scr) k l) (p .last .before (16 * k + o) (omega (arith, whole)) ∙ p .first .before (16 * k + o) (omega arith)))
       (λ l. rw (head-last (pagesIn scr) k {o = o} (omega arith))
-      (e .before (16 * pagesIn scr + 4 * k + (o - 16)) (omega arith) ∙ d .after (16 * pagesIn scr + 4 * k + (o - 16)) (omega (arith, whole))))
+      (p .last .before (16 * pagesIn scr + 4 * k + (o - 16)) (omega arith) ∙ p .first .after (16 * pagesIn scr + 4 * k + (o - 16)) (omega (arith, whole))))
 
   first-byte : getD out (16 * j) 0 ≡ getD img (1024 * j) 0
   first-byte = rw (head-first (pagesIn scr) j {o = 0} (omega arith), add-zero (16 * j), add-zero (1024 * j)) at (byte-at 0 (omega arith))
@@ -105,7 +113,7 @@ module _ {img own head scr mid : List ℕ} (j : ℕ) {out : List ℕ} (inside : 
   pub copied-open : (getD out (16 * j) 0 ≡ 0 → ⊥) → HeadCopied img scr j out
   copied-open n =
       record {
-        long = e .long ∙ d .long;
+        long = p .last .long ∙ p .first .long;
         first = first-byte ∙ sym (rw (ne-eqb (getD img (1024 * j) 0) 0 (λ z. n (first-byte ∙ z))));
         others = λ i l h. byte-at i h;
         kept = kept-at;
@@ -114,8 +122,8 @@ module _ {img own head scr mid : List ℕ} (j : ℕ) {out : List ℕ} (inside : 
   pub copied-zero : getD out (16 * j) 0 ≡ 0 → HeadCopied img scr j (set out (16 * j) 255)
   copied-zero z =
       record {
-        long = length-set out (16 * j) 255 ∙ e .long ∙ d .long;
-        first = getD-set-same out (16 * j) 255 0 (omega (arith, e .long, d .long)) ∙ sym (rw (eq-eqb (getD img (1024 * j) 0) 0 (sym first-byte ∙ z)));
+        long = length-set out (16 * j) 255 ∙ p .last .long ∙ p .first .long;
+        first = getD-set-same out (16 * j) 255 0 (omega (arith, p .last .long, p .first .long)) ∙ sym (rw (eq-eqb (getD img (1024 * j) 0) 0 (sym first-byte ∙ z)));
         others = λ i l h. getD-set-other out (16 * j) (headAt (pagesIn scr) j i) 255 0 (not-first scr j j i whole inside (λ _. l)) ∙ byte-at i h;
         kept = λ k i m h. getD-set-other out (16 * j) (headAt (pagesIn scr) k i) 255 0 (not-first scr j k i whole inside (λ q. absurd (omega arith))) ∙ kept-at k i m h;
       }

@@ -10,8 +10,8 @@ use Rattle.blockfile.specs.Layout.{Keyed, Entry, Table, Layout, towersOf}
 use Rattle.blockfile.specs.Order.{KeyRule, nameRule, keyRule, same, Rising, find, insert, erase, above, there}
 use Rattle.blockfile.specs.WellFormed.{WellFormed}
 use Rattle.blockfile.specs.Refusals.{Ledger, ledgerOf}
-use Rattle.laws.proofs.Maps.{asks}
-use Rattle.laws.proofs.Chains.{Follows, higher}
+use Rattle.laws.specs.Maps.{asks}
+use Rattle.laws.specs.Chains.{Follows, higher}
 
 -- ---- Finite maps
 

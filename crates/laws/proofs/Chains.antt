@@ -13,16 +13,7 @@ use Rattle.blockfile.specs.Bytes.{be32, Every, from}
 use Rattle.blockfile.specs.Layout.{Tower, Column, Table, towersOf, towerIn}
 use Rattle.blockfile.specs.Fields.{LinkedTower, Numbers}
 use Rattle.blockfile.specs.WellFormed.{Bears, tower, nextAt, linkTowers, towersIn}
-
--- from page p on, entry i leads through the pages of the list, in its order, and then to 0; g gives the bytes of a page
-abbrev pub Follows : (g : ℕ → List ℕ) (i p : ℕ) → List ℕ → Type 0
-Follows g i p [] = p ≡ 0
-Follows g i p (q ∷ qs) = (p ≡ q) × Follows g i (be32 (g q) (16 + 4 * i)) qs
-
--- the pages of the towers whose current is above i
-abbrev pub higher : (i : ℕ) → List Tower → List ℕ
-higher i [] = []
-higher i (t ∷ ts) = cond (ltb i (t .height)) (t .page ∷ higher i ts) (higher i ts)
+use Rattle.laws.specs.Chains.{Follows, higher}
 
 number-at : (b : List ℕ) (f : ℕ → ℕ) (o j n i : ℕ) → Numbers b o (map f (from j n)) → i < n → be32 b (o + 4 * i) ≡ f (j + i)
 number-at b f o j zero i h l = absurd (omega arith)

@@ -56,3 +56,4 @@ pub mod Given
 pub mod Owners
 pub mod Names
 pub mod Stays
+pub mod Claims

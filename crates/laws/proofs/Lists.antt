@@ -4,18 +4,11 @@ use native.Mathlib.Omega.{arith}
 use native.Mathlib.Nat.{add-suc, suc-add, add-zero, zero-add}
 use native.Mathlib.Numerals.{add-one}
 use mathlib.Core.Path.{_≡_, refl, ap, sym, _∙_}
-use mathlib.Core.Logic.{_⊎_, inl, inr}
+use mathlib.Core.Logic.{inl, inr}
 use mathlib.Core.List.{List, [], _∷_, _++_, append-nil}
 use lib.ListN.{length, getD, take, drop, set, length-take, length-set, drop-of-length-le, List·getD-append}
 use lib.Seq.{sets, sets-eq, take-suc, take-set-le, take-set-lt, take-append-le, drop-set-add, getD-take, getD-set-same, getD-set-other, getD-append-add, ext-getD}
-
--- a read of w bytes from a on meets no write of n bytes from o on
-abbrev pub Apart : (a w o n : ℕ) → Type 0
-Apart a w o n = (a + w ≤ o) ⊎ (o + n ≤ a)
-
--- w bytes of b from i on are those of c from j on
-abbrev pub Agree : (w : ℕ) (b : List ℕ) (i : ℕ) (c : List ℕ) (j : ℕ) → Type 0
-Agree w b i c j = (k : ℕ) → k < w → getD b (i + k) 0 ≡ getD c (j + k) 0
+use Rattle.laws.specs.Lists.{Apart, Agree}
 
 module _ {A : Type 0} where
   pub sets-append : (xs ys l : List A) (i : ℕ) → sets l i (xs ++ ys) ≡ sets (sets l i xs) (i + length xs) ys

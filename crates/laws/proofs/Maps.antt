@@ -2,7 +2,7 @@
 use Prim.Native.Nat.{ℕ}
 use native.Mathlib.Omega.{arith}
 use mathlib.Core.Path.{_≡_, refl, sym, subst, ap, _∙_}
-use mathlib.Core.Bool.{Bool, true, false, cond, _||_, true≢false}
+use mathlib.Core.Bool.{Bool, true, false, cond, true≢false}
 use mathlib.Core.List.{List, [], _∷_}
 use mathlib.Core.Option.{none, some}
 use lib.Dec.{T}
@@ -11,6 +11,7 @@ use Rattle.blockfile.specs.Layout.{Keyed}
 use Rattle.blockfile.specs.Order.{KeyRule, same, Rising, find, insert, erase, above, there}
 use Rattle.blockfile.proofs.Bools.{so, not-so, holds, same-eq, same-refl}
 use Rattle.blockfile.proofs.Every.{every-so}
+use Rattle.laws.specs.Maps.{asks}
 use Rattle.laws.proofs.Orders.{Ordered}
 
 pub differ : (a b : List ℕ) → same a b ≡ false → a ≡ b → ⊥
@@ -18,10 +19,6 @@ differ a b e q = true≢false (sym (so (same a b) (subst (λ (c : List ℕ). T (
 
 differ-sym : (a b : List ℕ) → same a b ≡ false → same b a ≡ false
 differ-sym a b e = not-so (same b a) (λ t. differ a b e (sym (same-eq b a t)))
-
--- k is the empty key, or j is above it
-abbrev pub asks : KeyRule → (k j : List ℕ) → Bool
-asks r k j = same k [] || r .below k j
 
 module _ {A : Type 0} (r : KeyRule) (o : Ordered r) where
   -- every key of the list is above k

@@ -26,7 +26,6 @@ use Rattle.laws.proofs.Draws.{length-drawn}
 use Rattle.laws.proofs.Splits.{height-fits, share-all, share-tower, new-span-pages}
 use Rattle.laws.proofs.Rewritten.{lifted, towers-after, kept-after}
 use Rattle.laws.proofs.SpanLinks.{linkBetween, firstPage, newSpan, spansTo, spansPast, spans-after, written-whole}
-use Rattle.laws.proofs.TowerLinks.{pagesIn}
 use Rattle.laws.proofs.Relinks.{towers-cut, links-pages}
 use Rattle.laws.proofs.TableTowers.{newLinked, tower-written, unlinked-count}
 use Rattle.laws.proofs.TablePut.{tableWith, putInto, put-few}
@@ -39,7 +38,8 @@ use Rattle.laws.proofs.Preserves.{made-ok}
 use Rattle.laws.proofs.Pagewise.{allPages}
 use Rattle.laws.proofs.Rewrites.{new-towers}
 use Rattle.laws.specs.FreeList.{freePages}
-use Rattle.laws.proofs.Owners.{tablePages, firstPages, contPages, count-table, count-span, drawn-count, firsts-without}
+use Rattle.laws.specs.Owned.{tablePages, firstPages, contPages, pagesIn, blockPages, givenBy}
+use Rattle.laws.proofs.Owners.{count-table, count-span, drawn-count, firsts-without}
 use Rattle.laws.proofs.Touches.{Field, Numbered, BlockHas, GivenHas, draw-has, SpanWhole, TowerWhole, linked-towers, LinksHave, rewriting-has, unlinking-has, table-has}
 
 -- a write on one of these pages, from offset lo on and below hi
@@ -216,15 +216,7 @@ module _ (t : Table) (blocks hand : List ℕ) where
 
 -- the span at place i, the pages drawn, and those given back
 abbrev pub handOf : Layout → Table → (i : ℕ) → Plan → List ℕ
-handOf L t i p = spanAt t i .page ∷ (drawnBy L p .pages ++ (drop (p .wanted) (p .old) ++ p .gone))
-
--- the pages of free-list blocks
-abbrev pub blockPages : Layout → List ℕ
-blockPages L = map (λ b. b .page) (L .free)
-
--- the pages given back
-abbrev pub givenBy : Plan → List ℕ
-givenBy p = drop (p .wanted) (p .old) ++ p .gone
+handOf L t i p = spanAt t i .page ∷ (drawnBy L p .pages ++ givenBy p)
 
 -- a list's pages are in it
 own-pages : (ns : List ℕ) → Every (λ n. 1 ≤ count n ns) ns

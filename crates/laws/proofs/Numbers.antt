@@ -7,7 +7,8 @@ use mathlib.Core.Path.{_≡_, refl}
 use mathlib.Core.List.{List, _++_}
 use lib.ListN.{length, getD}
 use Rattle.blockfile.specs.Bytes.{be16, be32, be64, word16, word32}
-use Rattle.laws.proofs.Lists.{Agree, agree-left, agree-right}
+use Rattle.laws.specs.Lists.{Agree}
+use Rattle.laws.proofs.Lists.{agree-left, agree-right}
 
 -- ---- a number read where two lists agree
 

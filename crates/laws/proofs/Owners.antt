@@ -18,28 +18,15 @@ use Rattle.blockfile.proofs.Bools.{holds, same-eq}
 use Rattle.blockfile.proofs.Count.{count-append}
 use Rattle.blockfile.proofs.Owned.{ownedBy, owned-append, count-owned}
 use Rattle.laws.specs.FreeList.{freePages}
+use Rattle.laws.specs.Owned.{tablePages, namedPages, inOption, pagesUnder, firstPages, contPages, pagesIn}
 use Rattle.laws.proofs.Maps.{differ}
 use Rattle.laws.proofs.Places.{gather-append}
 use Rattle.laws.proofs.State.{spanPages}
 use Rattle.laws.proofs.Opens.{owned-spans, owned-towers}
 use Rattle.laws.proofs.Draws.{none-given}
 use Rattle.laws.proofs.SpanLinks.{spansTo, spansPast, link-between, spans-here, past-next, spans-out}
-use Rattle.laws.proofs.TowerLinks.{pagesIn}
 use Rattle.laws.proofs.Relinks.{towers-cut}
 use Rattle.laws.proofs.Pagewise.{allPages, between-pages, tower-pages}
-use Rattle.laws.proofs.Spots.{inOption}
-
--- the pages of a table: its skip-list page, its spans with their continuation pages, its towers
-abbrev pub tablePages : Table → List ℕ
-tablePages t = ownedBy (tablePieces t)
-
--- the pages of all named tables
-abbrev pub namedPages : List (Keyed Table) → List ℕ
-namedPages ns = ownedBy (gather (λ n. tablePieces (n .value)) ns)
-
--- the pages of the table of a name, if there is one
-abbrev pub pagesUnder : List ℕ → List (Keyed Table) → List ℕ
-pagesUnder name ns = gather tablePages (inOption (find name ns))
 
 -- ---- Counts
 
@@ -86,14 +73,6 @@ table-pages t =
     ∙ (λ j. owned-spans (spansIn t) j ++ owned-towers (towersIn t) j)
     ∙ (λ j. spanPages (link-between (t .spanSize) 0 (spansOf (columns t)) j) ++ tower-pages (columns t) j)
     ∙ ap (λ (l : List ℕ). l ++ pagesIn (towersOf (columns t))) (between-pages (t .spanSize) 0 0 (spansOf (columns t))))
-
--- the continuation pages of spans
-abbrev pub contPages : List Span → List ℕ
-contPages ss = gather (λ s. s .conts) ss
-
--- the pages of spans
-abbrev pub firstPages : List Span → List ℕ
-firstPages ss = map (λ s. s .page) ss
 
 module _ (n : ℕ) where
   spans-split : (ss : List Span) → count n (allPages ss) ≡ count n (firstPages ss) + count n (contPages ss)

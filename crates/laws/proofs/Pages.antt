@@ -9,7 +9,8 @@ use mathlib.Core.List.{List, _++_}
 use lib.ListN.{length, getD, take, drop, replicate, length-append, length-take, length-drop, length-replicate}
 use lib.Seq.{sets, length-sets, getD-take, getD-drop, ext-getD}
 use Rattle.blockfile.specs.Bytes.{pg, write, be16, be32, word16, word32, padded}
-use Rattle.laws.proofs.Lists.{Apart, Agree, sets-append, sets-whole, take-sets-in, drop-sets, agree-off, agree-in}
+use Rattle.laws.specs.Lists.{Apart, Agree}
+use Rattle.laws.proofs.Lists.{sets-append, sets-whole, take-sets-in, drop-sets, agree-off, agree-in}
 use Rattle.laws.proofs.Numbers.{be16-agree, be32-agree, be16-word16, be32-word32, length-word16, length-word32}
 
 -- ---- by the byte where a page begins, as code has it

@@ -9,11 +9,12 @@ use Rattle.blockfile.specs.Fields.{SkipList, LinkedSpan, LinkedTower}
 use Rattle.blockfile.specs.WellFormed.{linkTowers, spansIn, towersIn, count}
 use Rattle.blockfile.proofs.Every.{every-left, every-right, every-unmap}
 use Rattle.blockfile.proofs.Count.{count-append}
+use Rattle.laws.specs.Owned.{pagesIn}
 use Rattle.laws.proofs.Places.{gather-append}
 use Rattle.laws.proofs.State.{Shows, spanPages, towerPages}
 use Rattle.laws.proofs.Opens.{held}
 use Rattle.laws.proofs.SpanLinks.{linkBetween, lastPage, firstPage, link-between}
-use Rattle.laws.proofs.TowerLinks.{pagesIn, Distinct, link-seats}
+use Rattle.laws.proofs.TowerLinks.{Distinct, link-seats}
 use Rattle.laws.proofs.Relinks.{links-pages}
 use Rattle.laws.proofs.Inside.{Word, spans-small, towers-small, towers-once}
 use Rattle.laws.proofs.Fitting.{SmallPages}

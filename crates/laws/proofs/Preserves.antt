@@ -19,6 +19,7 @@ use Rattle.blockfile.specs.Create.{wholeTable, createPlan}
 use Rattle.blockfile.specs.Refusals.{Op, check, get, put, remove, next, create, ledgerOf, refused}
 use Rattle.blockfile.specs.Answers.{planOf, lacking, planned}
 use Rattle.blockfile.specs.History.{Holds, Demand3}
+use Rattle.laws.specs.Owned.{inOption}
 use Rattle.laws.proofs.Orders.{names-ordered, keys-ordered}
 use Rattle.laws.proofs.Maps.{insert-found}
 use Rattle.laws.proofs.Targets.{target-is}
@@ -31,7 +32,7 @@ use Rattle.laws.proofs.TableCreate.{names-rising, table-found, meta-wan
 use Rattle.laws.proofs.Allowed.{OnTable, put-allowed, remove-allowed, create-allowed}
 use Rattle.laws.proofs.Ledgers.{LayoutOk, layout-ok, withTable, metaPages, created, metaAfter, create-drawn, Done, on-table, done-after, none-after, ledgerAfter}
 use Rattle.laws.proofs.Remembers.{Preserved, remembers}
-use Rattle.laws.proofs.Spots.{Around, among, tablesHeld, surrounds, held-at, held-gap, values, inOption, Spot, spot}
+use Rattle.laws.proofs.Spots.{Around, among, tablesHeld, surrounds, held-at, held-gap, values, Spot, spot}
 use Rattle.laws.proofs.Turns.{Turns, and-then, turns-as}
 use Rattle.laws.proofs.Fitting.{keys-short, names-short}
 use Rattle.laws.proofs.DrawnRewrites.{drawnAt, rewrite-turn}

@@ -14,10 +14,11 @@ use Rattle.blockfile.specs.WellFormed.{nextAt, linkTowers, towersIn, count}
 use Rattle.blockfile.specs.Put.{lastAt, relink}
 use Rattle.blockfile.proofs.Every.{every-left, every-join, every-so}
 use Rattle.blockfile.proofs.Count.{count-here, count-more, count-append}
+use Rattle.laws.specs.Owned.{pagesIn}
 use Rattle.laws.proofs.Numbers.{length-word32}
 use Rattle.laws.proofs.Writes.{Fits}
 use Rattle.laws.proofs.State.{towerPages}
-use Rattle.laws.proofs.TowerLinks.{Seat, seatsOf, seated, pagesIn, Distinct, nextsBefore, linkSeats, Link, linkWrite, setNexts, linkAt, linksTo, stretch, headAs, Low, High, Rise, low-or-high, gather-append, seated-towers, link-split, link-seats, sets-append, sets-apart, link-pages, head-sets, relinking}
+use Rattle.laws.proofs.TowerLinks.{Seat, seatsOf, seated, Distinct, nextsBefore, linkSeats, Link, linkWrite, setNexts, linkAt, linksTo, stretch, headAs, Low, High, Rise, low-or-high, gather-append, seated-towers, link-split, link-seats, sets-append, sets-apart, link-pages, head-sets, relinking}
 
 -- ---- The text's writes as edits
 

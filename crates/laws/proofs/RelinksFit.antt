@@ -14,7 +14,8 @@ use Rattle.blockfile.specs.WellFormed.{nextAt, count}
 use Rattle.blockfile.specs.Put.{lastAt}
 use Rattle.blockfile.proofs.Every.{every-right, every-so, every-map}
 use Rattle.blockfile.proofs.Count.{count-here, count-more}
-use Rattle.laws.proofs.TowerLinks.{Seat, seated, pagesIn, nextOr, nextsBefore, linkSeats, Link, linkAt, stretch}
+use Rattle.laws.specs.Owned.{pagesIn}
+use Rattle.laws.proofs.TowerLinks.{Seat, seated, nextOr, nextsBefore, linkSeats, Link, linkAt, stretch}
 use Rattle.laws.proofs.Relinks.{relinks, every-from, relinks-levels, relinks-to, towers-cut}
 use Rattle.laws.proofs.Inside.{Word, counted-every}
 use Rattle.laws.proofs.LinksWritten.{tall, LinkFits}

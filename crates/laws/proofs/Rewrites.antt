@@ -13,6 +13,7 @@ use Rattle.blockfile.specs.Encode.{wholeSpan, wholeTower}
 use Rattle.blockfile.specs.Put.{Parts, parts, wantedBy, towerWanted, Shared, share, newColumn, newColumns, spanAt, tableAfter, prevLink, countsOn, raise, rewriting}
 use Rattle.blockfile.proofs.Every.{every-left, every-right, every-join, every-unmap}
 use Rattle.blockfile.proofs.Count.{count-append, every-counted}
+use Rattle.laws.specs.Owned.{pagesIn}
 use Rattle.laws.proofs.Places.{every-take, every-drop}
 use Rattle.laws.proofs.State.{Held, Shows, spanPages, towerPages}
 use Rattle.laws.proofs.Opens.{held}
@@ -21,7 +22,7 @@ use Rattle.laws.proofs.Encodes.{SpanFits, TowerFits}
 use Rattle.laws.proofs.Splits.{parts-cases, parts-plain, plain-new, Split, split-new, share-all, share-tower, new-span-pages, new-tower-pages}
 use Rattle.laws.proofs.Rewritten.{raised}
 use Rattle.laws.proofs.SpanLinks.{linked, firstPage, lastPage, linkBetween, newSpan, spansTo, spansPast, spans-after, new-at-most-one, spans-rewritten, written-whole, written-prev}
-use Rattle.laws.proofs.TowerLinks.{seatsOf, seated, pagesIn, Distinct, Link, linkWrite, setNexts, stretch, headAs, seated-towers}
+use Rattle.laws.proofs.TowerLinks.{seatsOf, seated, Distinct, Link, linkWrite, setNexts, stretch, headAs, seated-towers}
 use Rattle.laws.proofs.Relinks.{relinks, towersBefore, towers-at, links-pages}
 use Rattle.laws.proofs.TableTowers.{head-after, seats-after, newLinked, towers-split, tower-written, split-written, split-count, counts-after}
 use Rattle.laws.proofs.Spots.{Around, among}

@@ -2,7 +2,7 @@
 use Prim.Native.Nat.{ℕ}
 use mathlib.Core.Path.{_≡_, refl, ap}
 use mathlib.Core.Bool.{Bool, true, false, cond}
-use mathlib.Core.Option.{Option, none, some}
+use mathlib.Core.Option.{none, some}
 use mathlib.Core.List.{List, [], _∷_, _++_, map, map-append}
 use lib.Dec.{T}
 use Rattle.blockfile.specs.Bytes.{gather}
@@ -12,6 +12,7 @@ use Rattle.blockfile.specs.Fields.{SkipList, LinkedSpan, LinkedTower}
 use Rattle.blockfile.specs.WellFormed.{skipListOf, spansIn, towersIn}
 use Rattle.blockfile.proofs.Bools.{holds}
 use Rattle.blockfile.proofs.Every.{every-so}
+use Rattle.laws.specs.Owned.{inOption}
 use Rattle.laws.proofs.Orders.{names-ordered}
 use Rattle.laws.proofs.Maps.{find-low}
 use Rattle.laws.proofs.Places.{gather-append}
@@ -62,11 +63,6 @@ held-gap pre post bs sp = simp (map-append, gather-append)
 -- the tables under their names
 abbrev pub values : List (Keyed Table) → List Table
 values ns = map (λ n. n .value) ns
-
--- the table, if there is one, as a list
-abbrev pub inOption : Option Table → List Table
-inOption none = []
-inOption (some t) = t ∷ []
 
 -- the tables before the name's and after it; here is the name's table, if there is one
 pub record Spot (name : List ℕ) (ns : List (Keyed Table)) (here : List Table) : Type 0 where

@@ -4,41 +4,39 @@ use native.Mathlib.Omega.{arith}
 use native.Mathlib.Decide.{ℕ-discrete}
 use mathlib.Core.Path.{_≡_, refl, ap, sym, _∙_, subst}
 use mathlib.Core.Logic.{_⊎_, inl, inr}
-use mathlib.Core.Bool.{Bool, true, false, cond}
+use mathlib.Core.Bool.{false}
 use mathlib.Core.Option.{Option, none, some}
-use mathlib.Core.List.{List, [], _∷_, _++_, map}
+use mathlib.Core.List.{List, [], _∷_, _++_}
 use lib.ListN.{length, getD, drop}
-use Rattle.blockfile.specs.declared.Refusal.{Refusal}
-use Rattle.blockfile.specs.declared.Refusal.the-variants.{NoRoom}
 use Rattle.blockfile.specs.Bytes.{pg, Write, apply, Every, gather}
-use Rattle.blockfile.specs.Layout.{Entry, Table, Layout, columns, spansOf, towersOf, freeCount}
-use Rattle.blockfile.specs.Order.{nameRule, keyRule, same, find}
+use Rattle.blockfile.specs.Layout.{Entry, Table, Layout, columns, spansOf, towersOf}
+use Rattle.blockfile.specs.Order.{nameRule, keyRule, find}
 use Rattle.blockfile.specs.WellFormed.{count, TableOk, WellFormed}
 use Rattle.blockfile.specs.Plan.{Plan, drawnBy, lacks, layoutAfter, writesOf}
 use Rattle.blockfile.specs.Put.{target, spanAt, rewritePlan, putPlan}
 use Rattle.blockfile.specs.Remove.{unlinkPlan, leavePlan, removePlan}
 use Rattle.blockfile.specs.Create.{createPlan}
-use Rattle.blockfile.specs.Refusals.{Op, check, get, put, remove, next, create, ledgerOf, refused, handed, doneReply}
-use Rattle.blockfile.specs.Answers.{refuse, planOf, lacking, planned, outcomeIf, outcomeOn}
+use Rattle.blockfile.specs.Refusals.{Op, check, get, put, remove, next, create, ledgerOf, refused}
+use Rattle.blockfile.specs.Answers.{planOf}
 use Rattle.blockfile.proofs.Every.{every-so, every-join}
 use Rattle.blockfile.proofs.Count.{count-here, count-append, count-more}
 use Rattle.blockfile.proofs.Owned.{clean}
+use Rattle.laws.specs.Lists.{Apart, Agree}
 use Rattle.laws.specs.FreeList.{freePages}
-use Rattle.laws.proofs.Lists.{Apart, Agree}
+use Rattle.laws.specs.Owned.{tablePages, namedPages, inOption, firstPages, contPages, pagesIn, blockPages, Bounded, changedBy, placeIn, givenBy}
+use Rattle.laws.specs.Claims.{SameBytes, Stays}
 use Rattle.laws.proofs.Orders.{names-ordered, keys-ordered}
 use Rattle.laws.proofs.Writes.{Fits, Spares, Misses, pg-apply-other, agree-apply}
-use Rattle.laws.proofs.Given.{Ends, Bounded, bounded-none, draw-ends}
+use Rattle.laws.proofs.Given.{Ends, bounded-none, draw-ends}
 use Rattle.laws.proofs.Targets.{target-is}
-use Rattle.laws.proofs.TowerLinks.{pagesIn}
 use Rattle.laws.proofs.TablePut.{putInto}
 use Rattle.laws.proofs.TableRemove.{leftBy}
 use Rattle.laws.proofs.TableCreate.{table-found}
 use Rattle.laws.proofs.Allowed.{OnTable, put-allowed, remove-allowed}
 use Rattle.laws.proofs.Ledgers.{on-table}
-use Rattle.laws.proofs.Spots.{inOption}
 use Rattle.laws.proofs.Preserves.{well-after}
-use Rattle.laws.proofs.Owners.{tablePages, namedPages, pagesUnder, firstPages, contPages, count-pages, under-named, names-apart, count-table, count-span, count-towers, take-drop-count, blocks-count, drawn-count}
-use Rattle.laws.proofs.Names.{Part, Named, first-free, counts, height, links, entries, listing, in-hand, handOf, givenBy, blockPages, PlanNamed, put-named, remove-named, create-named}
+use Rattle.laws.proofs.Owners.{count-pages, under-named, count-table, count-span, count-towers, take-drop-count, blocks-count, drawn-count}
+use Rattle.laws.proofs.Names.{Part, Named, first-free, counts, height, links, entries, listing, in-hand, handOf, PlanNamed, put-named, remove-named, create-named}
 
 -- ---- From writes to bytes
 
@@ -159,31 +157,19 @@ module _ (L : Layout) (t : Table) (i : ℕ) (p : Plan) (x : PlanNamed L t i p) w
       (every-so (Named t (blockPages L) (givenBy p)) given-more (drawnBy L p .writes) (x .drawing))
       (every-so (Named (x .made) [] (x .hand)) made-more (p .make (drawnBy L p .pages) .writes) (x .making))
 
--- the table that a call may change, if there is one
-abbrev pub changedBy : Layout → Op → List Table
-changedBy L check = []
-changedBy L (get n k) = []
-changedBy L (put n k v) = inOption (find n (L .tables))
-changedBy L (remove n k) = inOption (find n (L .tables))
-changedBy L (next n k) = []
-changedBy L (create n) = L .meta ∷ []
-
--- a plan changes one table, at one span; its writes are those that document 01 names
-pub record Change (L : Layout) (ts : List Table) (p : Plan) : Type 0 where
-  pub table : Table
-  pub is : ts ≡ table ∷ []
-  pub place : ℕ
-  pub inside : place < length (columns table)
-  pub old : p .old ≡ spanAt table place .conts
+-- a plan changes the table t at the span at place i; its writes are those that document 01 names
+pub record Change (L : Layout) (t : Table) (i : ℕ) (p : Plan) : Type 0 where
+  pub inside : i < length (columns t)
+  pub old : p .old ≡ spanAt t i .conts
   -- pages that go are those of spans and towers
-  pub gone : (n : ℕ) → count n (p .gone) ≤ count n (firstPages (spansOf (columns table))) + count n (pagesIn (towersOf (columns table)))
+  pub gone : (n : ℕ) → count n (p .gone) ≤ count n (firstPages (spansOf (columns t))) + count n (pagesIn (towersOf (columns t)))
   -- the superblock, the table and the free list share no page
-  pub once : (n : ℕ) → count n (1 ∷ []) + (count n (tablePages table) + count n (freePages (L .free))) ≤ 1
-  pub writes : PlanNamed L table place p
+  pub once : (n : ℕ) → count n (1 ∷ []) + (count n (tablePages t) + count n (freePages (L .free))) ≤ 1
+  pub writes : PlanNamed L t i p
 
 module _ (img : List ℕ) (L : Layout) (w : WellFormed img L) where
   -- each page is owned at most once
-  owned-once : (n : ℕ) → count n (1 ∷ []) + (count n (tablePages (L .meta)) + (count n (namedPages (L .tables)) + count n (freePages (L .free)))) ≤ 1
+  pub owned-once : (n : ℕ) → count n (1 ∷ []) + (count n (tablePages (L .meta)) + (count n (namedPages (L .tables)) + count n (freePages (L .free)))) ≤ 1
   owned-once n = omega (arith, count-pages n L, clean img L w .once n)
 
   module _ (name : List ℕ) (t : Table) (found : find name (L .tables) ≡ some t) where
@@ -198,20 +184,16 @@ module _ (img : List ℕ) (L : Layout) (w : WellFormed img L) where
         )
 
     abbrev Changed : (i : ℕ) → Plan → Type 0
-    Changed i p = PlanNamed L t i p → Change L (inOption (find name (L .tables))) p
+    Changed i p = PlanNamed L t i p → Change L t i p
 
     rewrite-change : (i : ℕ) (es : List Entry) → i < length (columns t) → Changed i (rewritePlan L name t i es)
     unfolding rewritePlan
-    rewrite-change i es inside h =
-        record { table = t; is = ap inOption found; place = i; inside = inside; old = refl; gone = λ n. omega arith; once = table-once; writes = h }
+    rewrite-change i es inside h = record { inside = inside; old = refl; gone = λ n. omega arith; once = table-once; writes = h }
 
     unlink-change : (k : ℕ) → suc k < length (columns t) → Changed (suc k) (unlinkPlan L name t (suc k))
     unfolding unlinkPlan
     unlink-change k inside h =
         record {
-          table = t;
-          is = ap inOption found;
-          place = suc k;
           inside = inside;
           old = refl;
           gone = λ n. omega (arith, count-span n t (suc k) inside .0, count-towers n t (suc k));
@@ -228,24 +210,22 @@ module _ (img : List ℕ) (L : Layout) (w : WellFormed img L) where
     ok = table-found (L .tables) name t (w .tablesOk) found
 
     put-change : (k v : List ℕ) → lacks L (putPlan L name t k v) ≡ false → Every (λ n. TableOk (keyRule (n .key)) (n .value)) (layoutAfter L (putPlan L name t k v) .tables)
-        → Change L (inOption (find name (L .tables))) (putPlan L name t k v)
+        → Change L t (target (keyRule name) k t) (putPlan L name t k v)
     unfolding putPlan
     put-change k v h good =
         rewrite-change (target (keyRule name) k t) (putInto (keyRule name) t k v) (target-is (keyRule name) (keys-ordered name) k t ok .place) (put-named L name t ok k v h good)
 
     remove-change : (k : List ℕ) → lacks L (removePlan L name t k) ≡ false → Every (λ n. TableOk (keyRule (n .key)) (n .value)) (layoutAfter L (removePlan L name t k) .tables)
-        → Change L (inOption (find name (L .tables))) (removePlan L name t k)
+        → Change L t (target (keyRule name) k t) (removePlan L name t k)
     unfolding removePlan
     remove-change k h good =
         leave-change (target (keyRule name) k t) (leftBy (keyRule name) t k) (target-is (keyRule name) (keys-ordered name) k t ok .place) (remove-named L name t ok k h good)
 
-  create-change : (name : List ℕ) → lacks L (createPlan L name) ≡ false → TableOk nameRule (layoutAfter L (createPlan L name) .meta) → Change L (L .meta ∷ []) (createPlan L name)
+  create-change : (name : List ℕ) → lacks L (createPlan L name) ≡ false → TableOk nameRule (layoutAfter L (createPlan L name) .meta)
+      → Change L (L .meta) (target nameRule name (L .meta)) (createPlan L name)
   unfolding createPlan
   create-change name h good =
       record {
-        table = L .meta;
-        is = refl;
-        place = target nameRule name (L .meta);
         inside = target-is nameRule names-ordered name (L .meta) (w .metaOk) .place;
         old = refl;
         gone = λ n. omega arith;
@@ -253,51 +233,62 @@ module _ (img : List ℕ) (L : Layout) (w : WellFormed img L) where
         writes = create-named L name (w .metaOk) h good;
       }
 
-change-as : (L : Layout) (ts : List Table) (o : Option Plan) (p q : Plan) → o ≡ some p → o ≡ some q → Change L ts q → Change L ts p
-change-as L ts o p q e d c = let i : q ≡ p = cc in subst (Change L ts) i c
+-- a done call changes one table
+pub record Changes (L : Layout) (op : Op) (p : Plan) : Type 0 where
+  pub table : Table
+  pub is : changedBy L op ≡ table ∷ []
+  pub change : Change L table (placeIn op table) p
 
--- what a done call changes
-pub change : (img : List ℕ) (L : Layout) (w : WellFormed img L) (op : Op) (room : ℕ) → refused (ledgerOf L) op room ≡ none → (p : Plan) → planOf L op ≡ some p → lacks L p ≡ false
-    → Change L (changedBy L op) p
-change img L w check room r p e h = absurd (let z : _≡_ {A = ℕ} 0 1 = cc in omega arith)
-change img L w (get n k) room r p e h = absurd (let z : _≡_ {A = ℕ} 0 1 = cc in omega arith)
-change img L w (put n k v) room r p e h =
+changes-as : (L : Layout) (op : Op) (o : Option Plan) (p q : Plan) → o ≡ some p → o ≡ some q → Changes L op q → Changes L op p
+changes-as L op o p q e d c = let i : q ≡ p = cc in subst (Changes L op) i c
+
+pub changes : (img : List ℕ) (L : Layout) (w : WellFormed img L) (op : Op) (room : ℕ) → refused (ledgerOf L) op room ≡ none → (p : Plan) → planOf L op ≡ some p → lacks L p ≡ false
+    → Changes L op p
+changes img L w check room r p e h = absurd (let z : _≡_ {A = ℕ} 0 1 = cc in omega arith)
+changes img L w (get n k) room r p e h = absurd (let z : _≡_ {A = ℕ} 0 1 = cc in omega arith)
+changes img L w (put n k v) room r p e h =
     let x : OnTable L n k = put-allowed L room n k v r .0 in
     let d : planOf L (put n k v) ≡ some (putPlan L n (x .table) k v) = on-table L n (x .table) (λ u. putPlan L n u k v) (x .found) in
     let i : p ≡ putPlan L n (x .table) k v = cc in
     let l : lacks L (putPlan L n (x .table) k v) ≡ false = subst (λ (q : Plan). lacks L q ≡ false) i h in
-    change-as L _ (planOf L (put n k v)) p (putPlan L n (x .table) k v) e d
-    (put-change img L w n (x .table) (x .found) k v l (well-after img L (put n k v) room w r (putPlan L n (x .table) k v) d l .tablesOk))
-change img L w (remove n k) room r p e h =
+    changes-as L (put n k v) (planOf L (put n k v)) p (putPlan L n (x .table) k v) e d
+    (record {
+      table = x .table;
+      is = ap inOption (x .found);
+      change = put-change img L w n (x .table) (x .found) k v l (well-after img L (put n k v) room w r (putPlan L n (x .table) k v) d l .tablesOk);
+    })
+changes img L w (remove n k) room r p e h =
     let x : OnTable L n k = remove-allowed L room n k r .0 in
     let d : planOf L (remove n k) ≡ some (removePlan L n (x .table) k) = on-table L n (x .table) (λ u. removePlan L n u k) (x .found) in
     let i : p ≡ removePlan L n (x .table) k = cc in
     let l : lacks L (removePlan L n (x .table) k) ≡ false = subst (λ (q : Plan). lacks L q ≡ false) i h in
-    change-as L _ (planOf L (remove n k)) p (removePlan L n (x .table) k) e d
-    (remove-change img L w n (x .table) (x .found) k l (well-after img L (remove n k) room w r (removePlan L n (x .table) k) d l .tablesOk))
-change img L w (next n k) room r p e h = absurd (let z : _≡_ {A = ℕ} 0 1 = cc in omega arith)
-change img L w (create n) room r p e h =
+    changes-as L (remove n k) (planOf L (remove n k)) p (removePlan L n (x .table) k) e d
+    (record {
+      table = x .table;
+      is = ap inOption (x .found);
+      change = remove-change img L w n (x .table) (x .found) k l (well-after img L (remove n k) room w r (removePlan L n (x .table) k) d l .tablesOk);
+    })
+changes img L w (next n k) room r p e h = absurd (let z : _≡_ {A = ℕ} 0 1 = cc in omega arith)
+changes img L w (create n) room r p e h =
     let i : p ≡ createPlan L n = cc in
     let l : lacks L (createPlan L n) ≡ false = subst (λ (q : Plan). lacks L q ≡ false) i h in
-    change-as L _ (planOf L (create n)) p (createPlan L n) e refl (create-change img L w n l (well-after img L (create n) room w r (createPlan L n) refl l .metaOk))
+    changes-as L (create n) (planOf L (create n)) p (createPlan L n) e refl
+    (record { table = L .meta; is = refl; change = create-change img L w n l (well-after img L (create n) room w r (createPlan L n) refl l .metaOk) })
 
 -- ---- Bytes of the pages that a done call writes in part
 
-module _ (img : List ℕ) (L : Layout) (ts : List Table) (p : Plan) (c : Change L ts p) where
-  abbrev after : List ℕ
-  after = apply (writesOf L p) img
-
+module _ (img : List ℕ) (L : Layout) (t : Table) (i : ℕ) (p : Plan) (c : Change L t i p) where
   -- the table's parts, the pages gone and the free ones, counted
   record Counts (n : ℕ) : Type 0 where
-    once : count n (1 ∷ []) + (count n (tablePages (c .table)) + count n (freePages (L .free))) ≤ 1
-    parts : count n (tablePages (c .table))
-        ≡ count n (c .table .root ∷ []) + (count n (firstPages (spansOf (columns (c .table)))) + (count n (contPages (spansOf (columns (c .table)))) + count n (pagesIn (towersOf (columns (c .table))))))
-    head : count n (c .table .head .page ∷ []) ≤ count n (pagesIn (towersOf (columns (c .table))))
-    span : count n (spanAt (c .table) (c .place) .page ∷ []) ≤ count n (firstPages (spansOf (columns (c .table))))
-    conts : count n (p .old) ≤ count n (contPages (spansOf (columns (c .table))))
-    gone : count n (p .gone) ≤ count n (firstPages (spansOf (columns (c .table)))) + count n (pagesIn (towersOf (columns (c .table))))
-    hand : count n (handOf L (c .table) (c .place) p)
-        ≡ count n (spanAt (c .table) (c .place) .page ∷ []) + (count n (drawnBy L p .pages) + (count n (drop (p .wanted) (p .old)) + count n (p .gone)))
+    once : count n (1 ∷ []) + (count n (tablePages t) + count n (freePages (L .free))) ≤ 1
+    parts : count n (tablePages t)
+        ≡ count n (t .root ∷ []) + (count n (firstPages (spansOf (columns t))) + (count n (contPages (spansOf (columns t))) + count n (pagesIn (towersOf (columns t)))))
+    head : count n (t .head .page ∷ []) ≤ count n (pagesIn (towersOf (columns t)))
+    span : count n (spanAt t i .page ∷ []) ≤ count n (firstPages (spansOf (columns t)))
+    conts : count n (p .old) ≤ count n (contPages (spansOf (columns t)))
+    gone : count n (p .gone) ≤ count n (firstPages (spansOf (columns t))) + count n (pagesIn (towersOf (columns t)))
+    hand : count n (handOf L t i p)
+        ≡ count n (spanAt t i .page ∷ []) + (count n (drawnBy L p .pages) + (count n (drop (p .wanted) (p .old)) + count n (p .gone)))
     drawn : count n (drawnBy L p .pages) + count n (drop (p .wanted) (p .old)) ≤ count n (p .old) + count n (freePages (L .free))
     dropped : count n (drop (p .wanted) (p .old)) ≤ count n (p .old)
     blocks : count n (blockPages L) ≤ count n (freePages (L .free))
@@ -306,23 +297,23 @@ module _ (img : List ℕ) (L : Layout) (ts : List Table) (p : Plan) (c : Change 
   counted n =
       record {
         once = c .once n;
-        parts = count-table n (c .table);
+        parts = count-table n t;
         head = omega arith;
-        span = count-span n (c .table) (c .place) (c .inside) .0;
-        conts = omega (arith, ap (count n) (c .old), count-span n (c .table) (c .place) (c .inside) .1);
+        span = count-span n t i (c .inside) .0;
+        conts = omega (arith, ap (count n) (c .old), count-span n t i (c .inside) .1);
         gone = c .gone n;
-        hand = omega (arith, count-append n (drawnBy L p .pages) (drop (p .wanted) (p .old) ++ p .gone), count-append n (drop (p .wanted) (p .old)) (p .gone));
+        hand = omega (arith, count-append n (drawnBy L p .pages) (givenBy p), count-append n (drop (p .wanted) (p .old)) (p .gone));
         drawn = drawn-count n (p .old) (p .wanted) (p .gone) (L .free);
         dropped = omega (arith, take-drop-count n (p .wanted) (p .old));
         blocks = blocks-count n (L .free);
       }
 
-  stays-by : (n a v : ℕ) → Spared (c .table) (blockPages L) (handOf L (c .table) (c .place) p) n a v → Agree v (pg after n) a (pg img n) a
-  stays-by n a v s = bytes-stay (c .table) (blockPages L) (handOf L (c .table) (c .place) p) (writesOf L p) img (all-named L (c .table) (c .place) p (c .writes)) n a v s
+  stays-by : (n a v : ℕ) → Spared t (blockPages L) (handOf L t i p) n a v → SameBytes img L p n a v
+  stays-by n a v s = bytes-stay t (blockPages L) (handOf L t i p) (writesOf L p) img (all-named L t i p (c .writes)) n a v s
 
   -- a free page that is not drawn is in no part but a block's
   free-spared : (n a v : ℕ) → count n (drawnBy L p .pages) ≡ 0 → 1 ≤ count n (freePages (L .free)) → (count n (blockPages L) ≡ 0) ⊎ Apart a v 12 1012
-      → Spared (c .table) (blockPages L) (handOf L (c .table) (c .place) p) n a v
+      → Spared t (blockPages L) (handOf L t i p) n a v
   free-spared n a v kept is h =
       let k : Counts n = counted n in
       record {
@@ -335,112 +326,26 @@ module _ (img : List ℕ) (L : Layout) (ts : List Table) (p : Plan) (c : Change 
         in-hand = inl (omega (arith, k .once, k .parts, k .span, k .conts, k .gone, k .dropped, k .hand));
       }
 
-  -- the superblock but for bytes 16 to 19
-  pub super-bytes : (a v : ℕ) → Apart a v 16 4 → Agree v (pg after 1) a (pg img 1) a
-  super-bytes a v off =
-      let k : Counts 1 = counted 1 in
-      stays-by 1 a v
-      (record {
-        first-free = inr off;
-        counts = inl (omega (arith, k .once, k .parts));
-        height = inl (omega (arith, k .once, k .parts, k .head));
-        links = inl (omega (arith, k .once, k .parts));
-        entries = inl (omega (arith, k .once, k .parts));
-        listing = inl (omega (arith, k .once, k .parts, k .blocks));
-        in-hand = inl (omega (arith, k .once, k .parts, k .span, k .conts, k .gone, k .drawn, k .hand));
-      })
-
-  -- the table's skip-list page but for bytes 16 to 27
-  pub root-bytes : (a v : ℕ) → Apart a v 16 12 → Agree v (pg after (c .table .root)) a (pg img (c .table .root)) a
-  root-bytes a v off =
-      let k : Counts (c .table .root) = counted (c .table .root) in
-      let one : count (c .table .root) (c .table .root ∷ []) ≡ 1 + 0 = count-here (c .table .root) [] in
-      stays-by (c .table .root) a v
-      (record {
-        first-free = inl (omega (arith, k .once, k .parts));
-        counts = inr off;
-        height = inl (omega (arith, k .once, k .parts, k .head));
-        links = inl (omega (arith, k .once, k .parts));
-        entries = inl (omega (arith, k .once, k .parts));
-        listing = inl (omega (arith, k .once, k .parts, k .blocks));
-        in-hand = inl (omega (arith, k .once, k .parts, k .span, k .conts, k .gone, k .drawn, k .hand));
-      })
-
-  -- a tower that is not gone, before its entries; the head but for bytes 10 and 11
-  pub tower-bytes : (n : ℕ) → 1 ≤ count n (pagesIn (towersOf (columns (c .table)))) → count n (p .gone) ≡ 0 → (a v : ℕ) → a + v ≤ 16
-      → (count n (c .table .head .page ∷ []) ≡ 0) ⊎ Apart a v 10 2 → Agree v (pg after n) a (pg img n) a
-  tower-bytes n is kept a v low head =
-      let k : Counts n = counted n in
-      stays-by n a v
-      (record {
-        first-free = inl (omega (arith, k .once, k .parts));
-        counts = inl (omega (arith, k .once, k .parts));
-        height = head;
-        links = inl (omega (arith, k .once, k .parts));
-        entries = inr (inl low);
-        listing = inl (omega (arith, k .once, k .parts, k .blocks));
-        in-hand = inl (omega (arith, k .once, k .parts, k .span, k .conts, k .drawn, k .hand));
-      })
-
-  -- another span that is not gone, but for bytes 8 to 15
-  pub span-bytes : (n : ℕ) → 1 ≤ count n (firstPages (spansOf (columns (c .table)))) → count n (spanAt (c .table) (c .place) .page ∷ []) ≡ 0 → count n (p .gone) ≡ 0
-      → (a v : ℕ) → Apart a v 8 8 → Agree v (pg after n) a (pg img n) a
-  span-bytes n is other kept a v off =
-      let k : Counts n = counted n in
-      stays-by n a v
-      (record {
-        first-free = inl (omega (arith, k .once, k .parts));
-        counts = inl (omega (arith, k .once, k .parts));
-        height = inl (omega (arith, k .once, k .parts, k .head));
-        links = inr off;
-        entries = inl (omega (arith, k .once, k .parts));
-        listing = inl (omega (arith, k .once, k .parts, k .blocks));
-        in-hand = inl (omega (arith, k .once, k .parts, k .conts, k .drawn, k .hand));
-      })
-
-  -- another span's continuation pages
-  pub cont-bytes : (n : ℕ) → 1 ≤ count n (contPages (spansOf (columns (c .table)))) → count n (p .old) ≡ 0 → (a v : ℕ) → Agree v (pg after n) a (pg img n) a
-  cont-bytes n is other a v =
-      let k : Counts n = counted n in
-      stays-by n a v
-      (record {
-        first-free = inl (omega (arith, k .once, k .parts));
-        counts = inl (omega (arith, k .once, k .parts));
-        height = inl (omega (arith, k .once, k .parts, k .head));
-        links = inl (omega (arith, k .once, k .parts));
-        entries = inl (omega (arith, k .once, k .parts));
-        listing = inl (omega (arith, k .once, k .parts, k .blocks));
-        in-hand = inl (omega (arith, k .once, k .parts, k .span, k .gone, k .drawn, k .hand));
-      })
-
-  -- a free-list block that is not drawn, before its count
-  pub block-bytes : (n : ℕ) → 1 ≤ count n (blockPages L) → count n (drawnBy L p .pages) ≡ 0 → (a v : ℕ) → a + v ≤ 12 → Agree v (pg after n) a (pg img n) a
-  block-bytes n is kept a v low = stays-by n a v (free-spared n a v kept (omega (arith, counted n .blocks)) (inr (inl low)))
-
-  -- a listed page that is not drawn
-  pub listed-bytes : (n : ℕ) → 1 ≤ count n (freePages (L .free)) → count n (blockPages L) ≡ 0 → count n (drawnBy L p .pages) ≡ 0 → (a v : ℕ) → Agree v (pg after n) a (pg img n) a
-  listed-bytes n is other kept a v = stays-by n a v (free-spared n a v kept is (inl other))
-
   -- a page given back, behind its free mark, or behind what a block lists where it becomes one: m is where that ends
-  pub given-bytes : (n : ℕ) → 1 ≤ count n (givenBy p) → (m : ℕ) → 8 ≤ m → Bounded n m (drawnBy L p .free) → (a v : ℕ) → m ≤ a → Agree v (pg after n) a (pg img n) a
+  given-back : (n : ℕ) → 1 ≤ count n (givenBy p) → (m : ℕ) → 8 ≤ m → Bounded n m (drawnBy L p .free) → (a v : ℕ) → m ≤ a → SameBytes img L p n a v
   unfolding writesOf
-  given-bytes n is m low bound a v past =
+  given-back n is m low bound a v past =
       let k : Counts n = counted n in
-      let x : PlanNamed L (c .table) (c .place) p = c .writes in
-      let mine : 1 ≤ count n (tablePages (c .table)) = omega (arith, k .parts, k .conts, k .gone, k .dropped, count-append n (drop (p .wanted) (p .old)) (p .gone)) in
+      let x : PlanNamed L t i p = c .writes in
+      let mine : 1 ≤ count n (tablePages t) = omega (arith, k .parts, k .conts, k .gone, k .dropped, count-append n (drop (p .wanted) (p .old)) (p .gone)) in
       let off : n ≡ 1 → ⊥ = λ e. not-super (k .once) mine e in
       let dw : List Write = drawnBy L p .writes in
       let mw : List Write = p .make (drawnBy L p .pages) .writes in
       agree-missed n a v (dw ++ mw) img
-      (every-so (Named (c .table) (blockPages L) (handOf L (c .table) (c .place) p)) (named-fits (c .table) (blockPages L) (handOf L (c .table) (c .place) p)) (dw ++ mw)
-      (all-named L (c .table) (c .place) p x))
+      (every-so (Named t (blockPages L) (handOf L t i p)) (named-fits t (blockPages L) (handOf L t i p)) (dw ++ mw)
+      (all-named L t i p x))
       (every-join (Misses n a v) dw mw
       (every-so (Ends n m) ended dw (draw-ends n m off low (p .old) (p .wanted) (p .gone) (L .free) (omega (arith, k .once, k .blocks)) bound))
       (every-so (Spares n) (λ w e. inl e) mw
       (pages-apart (x .made) [] (x .hand) mw n (x .making)
       (omega (arith, k .once, k .parts, x .apart n (omega (arith, k .once)) is, ap (λ (r : ℕ). count n (r ∷ [])) (x .root), k .conts, k .gone, k .dropped, count-append n (drop (p .wanted) (p .old)) (p .gone))))))
     where
-      not-super : count n (1 ∷ []) + (count n (tablePages (c .table)) + count n (freePages (L .free))) ≤ 1 → 1 ≤ count n (tablePages (c .table)) → n ≡ 1 → ⊥
+      not-super : count n (1 ∷ []) + (count n (tablePages t) + count n (freePages (L .free))) ≤ 1 → 1 ≤ count n (tablePages t) → n ≡ 1 → ⊥
       not-super o h e = omega (arith, ap (λ (j : ℕ). count j (1 ∷ [])) e)
 
       ended : (w : Write) → Ends n m w → Misses n a v w
@@ -450,56 +355,79 @@ module _ (img : List ℕ) (L : Layout) (ts : List Table) (p : Plan) (c : Change 
           go (yes e) = inr (inr (omega (arith, h e)))
           go (no e) = inl e
 
-  -- so a page given back that is listed, and no block, keeps all behind the free mark
-  pub freed-bytes : (n : ℕ) → 1 ≤ count n (givenBy p) → count n (map (λ b. b .page) (drawnBy L p .free)) ≡ 0 → (a v : ℕ) → 8 ≤ a → Agree v (pg after n) a (pg img n) a
-  freed-bytes n is listed a v past = given-bytes n is 8 (omega arith) (bounded-none n 8 (drawnBy L p .free) listed) a v past
+  -- the bytes that stay, for each kind of page
+  pub stays : Stays img L t i p
+  stays =
+      record {
+        super-bytes = λ a v off.
+            let k : Counts 1 = counted 1 in
+            stays-by 1 a v
+            (record {
+              first-free = inr off;
+              counts = inl (omega (arith, k .once, k .parts));
+              height = inl (omega (arith, k .once, k .parts, k .head));
+              links = inl (omega (arith, k .once, k .parts));
+              entries = inl (omega (arith, k .once, k .parts));
+              listing = inl (omega (arith, k .once, k .parts, k .blocks));
+              in-hand = inl (omega (arith, k .once, k .parts, k .span, k .conts, k .gone, k .drawn, k .hand));
+            });
+        root-bytes = λ a v off.
+            let k : Counts (t .root) = counted (t .root) in
+            let one : count (t .root) (t .root ∷ []) ≡ 1 + 0 = count-here (t .root) [] in
+            stays-by (t .root) a v
+            (record {
+              first-free = inl (omega (arith, k .once, k .parts));
+              counts = inr off;
+              height = inl (omega (arith, k .once, k .parts, k .head));
+              links = inl (omega (arith, k .once, k .parts));
+              entries = inl (omega (arith, k .once, k .parts));
+              listing = inl (omega (arith, k .once, k .parts, k .blocks));
+              in-hand = inl (omega (arith, k .once, k .parts, k .span, k .conts, k .gone, k .drawn, k .hand));
+            });
+        tower-bytes = λ n is kept a v low head.
+            let k : Counts n = counted n in
+            stays-by n a v
+            (record {
+              first-free = inl (omega (arith, k .once, k .parts));
+              counts = inl (omega (arith, k .once, k .parts));
+              height = head;
+              links = inl (omega (arith, k .once, k .parts));
+              entries = inr (inl low);
+              listing = inl (omega (arith, k .once, k .parts, k .blocks));
+              in-hand = inl (omega (arith, k .once, k .parts, k .span, k .conts, k .drawn, k .hand));
+            });
+        span-bytes = λ n is other kept a v off.
+            let k : Counts n = counted n in
+            stays-by n a v
+            (record {
+              first-free = inl (omega (arith, k .once, k .parts));
+              counts = inl (omega (arith, k .once, k .parts));
+              height = inl (omega (arith, k .once, k .parts, k .head));
+              links = inr off;
+              entries = inl (omega (arith, k .once, k .parts));
+              listing = inl (omega (arith, k .once, k .parts, k .blocks));
+              in-hand = inl (omega (arith, k .once, k .parts, k .conts, k .drawn, k .hand));
+            });
+        cont-bytes = λ n is other a v.
+            let k : Counts n = counted n in
+            stays-by n a v
+            (record {
+              first-free = inl (omega (arith, k .once, k .parts));
+              counts = inl (omega (arith, k .once, k .parts));
+              height = inl (omega (arith, k .once, k .parts, k .head));
+              links = inl (omega (arith, k .once, k .parts));
+              entries = inl (omega (arith, k .once, k .parts));
+              listing = inl (omega (arith, k .once, k .parts, k .blocks));
+              in-hand = inl (omega (arith, k .once, k .parts, k .span, k .gone, k .drawn, k .hand));
+            });
+        block-bytes = λ n is kept a v low. stays-by n a v (free-spared n a v kept (omega (arith, counted n .blocks)) (inr (inl low)));
+        listed-bytes = λ n is other kept a v. stays-by n a v (free-spared n a v kept is (inl other));
+        given-bytes = given-back;
+        freed-bytes = λ n is listed a v past. given-back n is 8 (omega arith) (bounded-none n 8 (drawnBy L p .free) listed) a v past;
+      }
 
   -- every other page: not the superblock, not of the table, not free
-  pub other-page : (n : ℕ) → count n (1 ∷ []) + (count n (tablePages (c .table)) + count n (freePages (L .free))) ≡ 0 → pg after n ≡ pg img n
+  pub other-page : (n : ℕ) → count n (1 ∷ []) + (count n (tablePages t) + count n (freePages (L .free))) ≡ 0 → pg (apply (writesOf L p) img) n ≡ pg img n
   other-page n z =
       let k : Counts n = counted n in
-      named-elsewhere (c .table) (blockPages L) (handOf L (c .table) (c .place) p) (writesOf L p) img (all-named L (c .table) (c .place) p (c .writes)) n (omega (arith, k .parts, k .span, k .conts, k .gone, k .drawn, k .hand, k .blocks))
-
--- ---- Each call
-
-module _ (img : List ℕ) (L : Layout) (w : WellFormed img L) (op : Op) (room n : ℕ) where
-  abbrev left : List ℕ
-  left = apply (outcomeOn L op room .writes) img
-
-  -- a call, done or refused, leaves every page but the superblock, those of the table that it changes, and free ones
-  pub page-stays : count n (1 ∷ []) + (count n (gather tablePages (changedBy L op)) + count n (freePages (L .free))) ≡ 0 → pg left n ≡ pg img n
-  unfolding outcomeOn
-  page-stays z = go (refused (ledgerOf L) op room) refl
-    where
-      planned-so : (a : Option Plan) → planOf L op ≡ a → refused (ledgerOf L) op room ≡ none → lacking L a ≡ false → pg (apply (planned L a) img) n ≡ pg img n
-      planned-so none e r h = refl
-      planned-so (some p) e r h =
-          let c : Change L (changedBy L op) p = change img L w op room r p e h in
-          other-page img L (changedBy L op) p c n
-          (omega (arith, ap (λ (ts : List Table). count n (gather tablePages ts)) (c .is), count-append n (tablePages (c .table)) []))
-
-      done-so : (b : Bool) → lacking L (planOf L op) ≡ b → refused (ledgerOf L) op room ≡ none
-          → pg
-          (apply
-          (cond b (refuse NoRoom) (record { reply = doneReply (ledgerOf L) (freeCount (L .free)) op; bytes = handed (ledgerOf L) op; writes = planned L (planOf L op) }) .writes)
-          img) n
-          ≡ pg img n
-      done-so true e r = refl
-      done-so false e r = planned-so (planOf L op) refl r e
-
-      go : (q : Option Refusal) → refused (ledgerOf L) op room ≡ q → pg (apply (outcomeIf L op q .writes) img) n ≡ pg img n
-      go (some f) r = refl
-      go none r = done-so (lacking L (planOf L op)) refl r
-
-  module _ (name : List ℕ) (on : changedBy L op ≡ inOption (find name (L .tables))) where
-    -- a call on the table of a name, as put and remove are, leaves the metaindex
-    pub meta-stays : 1 ≤ count n (tablePages (L .meta)) → pg left n ≡ pg img n
-    meta-stays h = page-stays (omega (arith, owned-once img L w n, ap (λ (ts : List Table). count n (gather tablePages ts)) on, under-named n name (L .tables)))
-
-    -- and every table of another name
-    pub table-stays : (other : List ℕ) → same other name ≡ false → 1 ≤ count n (pagesUnder other (L .tables)) → pg left n ≡ pg img n
-    table-stays other d h = page-stays (omega (arith, owned-once img L w n, ap (λ (ts : List Table). count n (gather tablePages ts)) on, names-apart n name other d (L .tables)))
-
-  -- create leaves every table that is there
-  pub tables-stay : changedBy L op ≡ L .meta ∷ [] → 1 ≤ count n (namedPages (L .tables)) → pg left n ≡ pg img n
-  tables-stay on h = page-stays (omega (arith, owned-once img L w n, ap (λ (ts : List Table). count n (gather tablePages ts)) on, count-append n (tablePages (L .meta)) []))
+      named-elsewhere t (blockPages L) (handOf L t i p) (writesOf L p) img (all-named L t i p (c .writes)) n (omega (arith, k .parts, k .span, k .conts, k .gone, k .drawn, k .hand, k .blocks))

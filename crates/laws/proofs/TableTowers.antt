@@ -16,8 +16,9 @@ use Rattle.blockfile.specs.Put.{Parts, Shared, spanAt, setSpan, newColumn, newC
 use Rattle.blockfile.specs.Remove.{without, towersAt}
 use Rattle.blockfile.proofs.Every.{every-left, every-right}
 use Rattle.blockfile.proofs.Count.{count-append}
+use Rattle.laws.specs.Owned.{pagesIn}
 use Rattle.laws.proofs.SpanLinks.{size-after}
-use Rattle.laws.proofs.TowerLinks.{Seat, seatIn, seatsOf, seated, pagesIn, Distinct, nextsBefore, linkSeats, Link, linkWrite, setNexts, stretch, headAs, head-sets, gather-append, seated-towers, link-split}
+use Rattle.laws.proofs.TowerLinks.{Seat, seatIn, seatsOf, seated, Distinct, nextsBefore, linkSeats, Link, linkWrite, setNexts, stretch, headAs, head-sets, gather-append, seated-towers, link-split}
 use Rattle.laws.proofs.Relinks.{relinks, relink-writes, towersBefore, towers-at, length-links, pages-append, towers-cut, every-taken, rise, table-relinked, table-relinked-low}
 
 -- ---- The table after a rewriting, as linking sees it

@@ -17,6 +17,7 @@ use Rattle.blockfile.specs.WellFormed.{nextAt, linkTowers, count}
 use Rattle.blockfile.specs.Put.{lastAt}
 use Rattle.blockfile.proofs.Every.{every-so}
 use Rattle.blockfile.proofs.Count.{count-here, count-more}
+use Rattle.laws.specs.Owned.{pagesIn}
 use Rattle.laws.proofs.State.{towerPages}
 
 -- ---- Definitions
@@ -33,12 +34,9 @@ seatIn c = map (λ w. record { spanPage = c .span .page; tower = w }) (towerIn (
 abbrev pub seatsOf : List Column → List Seat
 seatsOf cs = gather seatIn cs
 
--- the towers of seats, and their pages
+-- the towers of seats
 abbrev pub seated : List Seat → List Tower
 seated xs = map (λ x. x .tower) xs
-
-abbrev pub pagesIn : List Tower → List ℕ
-pagesIn ts = map (λ t. t .page) ts
 
 -- no two towers on one page
 abbrev pub Distinct : List Tower → Type 0

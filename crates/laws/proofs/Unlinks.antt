@@ -16,6 +16,7 @@ use Rattle.blockfile.specs.Put.{spanAt, prevLink, nextLink, countsOn}
 use Rattle.blockfile.specs.Remove.{without, towersAt, unlinking}
 use Rattle.blockfile.proofs.Every.{every-left, every-right, every-join, every-so, every-map, every-unmap}
 use Rattle.blockfile.proofs.Count.{count-append, every-counted}
+use Rattle.laws.specs.Owned.{pagesIn}
 use Rattle.laws.proofs.Places.{every-take, every-drop}
 use Rattle.laws.proofs.State.{Held, Shows, towerPages}
 use Rattle.laws.proofs.Opens.{held}
@@ -23,7 +24,7 @@ use Rattle.laws.proofs.Edits.{respare, forget-span, next-written}
 use Rattle.laws.proofs.Draws.{Few, length-drawn, drawn-shows}
 use Rattle.laws.proofs.TableRemove.{columns-without}
 use Rattle.laws.proofs.SpanLinks.{linked, firstPage, lastPage, linkBetween, spansTo, spansPast, spans-here, spans-out, spans-with, spans-unlinked, unlinked-next, unlinked-prev}
-use Rattle.laws.proofs.TowerLinks.{seatsOf, seated, pagesIn, Distinct, Link, linkWrite, seated-towers}
+use Rattle.laws.proofs.TowerLinks.{seatsOf, seated, Distinct, Link, linkWrite, seated-towers}
 use Rattle.laws.proofs.Relinks.{relinks, towersBefore, towers-cut, links-pages}
 use Rattle.laws.proofs.TableTowers.{relinks-gone, goneLinked, towers-with, towers-unlinked, unlinked-count, unlinked-distinct, counts-without}
 use Rattle.laws.proofs.Inside.{Word, counted-every}

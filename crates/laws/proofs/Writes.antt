@@ -6,7 +6,7 @@ use native.Mathlib.Decide.{ℕ-discrete}
 use mathlib.Core.List.{List, [], _∷_, _++_}
 use lib.ListN.{length, getD}
 use Rattle.blockfile.specs.Bytes.{pg, write, be16, be32, Write, apply, Every}
-use Rattle.laws.proofs.Lists.{Apart, Agree}
+use Rattle.laws.specs.Lists.{Apart, Agree}
 use Rattle.laws.proofs.Numbers.{be16-agree, be32-agree}
 use Rattle.laws.proofs.Pages.{length-write, pg-write-other, agree-write-off}
 

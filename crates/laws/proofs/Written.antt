@@ -14,7 +14,8 @@ use Rattle.blockfile.specs.Marks.{blockMark, freeMark}
 use Rattle.blockfile.specs.Layout.{Entry, lensAt, entryEnd}
 use Rattle.blockfile.specs.Fields.{SkipList, LinkedTower, LinkedSpan, IsSuperblock, IsSkipList, IsTower, IsSpan, IsBlock, IsFree, Numbers, EntriesAt}
 use Rattle.blockfile.specs.Encode.{counts}
-use Rattle.laws.proofs.Lists.{Apart, take-sets-before, take-sets-start}
+use Rattle.laws.specs.Lists.{Apart}
+use Rattle.laws.proofs.Lists.{take-sets-before, take-sets-start}
 use Rattle.laws.proofs.Numbers.{be64-agree, be32-word32, be32-left, be32-right, length-word16, length-word32}
 use Rattle.laws.proofs.Pages.{length-pg, pg-write-same, agree-write-off, be16-write-off, be32-write-off, be32-write-in, be16-write-same, be32-write-same}
 use Rattle.laws.proofs.FreeRead.{numbers-at}

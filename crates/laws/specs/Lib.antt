@@ -1,1 +1,6 @@
+pub mod Lists
+pub mod Maps
+pub mod Chains
 pub mod FreeList
+pub mod Owned
+pub mod Claims

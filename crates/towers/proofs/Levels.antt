@@ -10,7 +10,8 @@ use lib.ListN.{length, take, drop, getD, length-take, length-drop}
 use lib.Seq.{sets, length-sets, getD-take, getD-drop}
 use borrow.Author.Count.{below-more}
 use Rattle.blockfile.specs.Bytes.{pg, be16, be32, write}
-use Rattle.laws.proofs.Lists.{Agree, agree-in, agree-off}
+use Rattle.laws.specs.Lists.{Agree}
+use Rattle.laws.proofs.Lists.{agree-in, agree-off}
 use Rattle.laws.proofs.Numbers.{be32-agree}
 use Rattle.laws.proofs.Pages.{be32-pg}
 use Rattle.walks.specs.Found.{Decides}
