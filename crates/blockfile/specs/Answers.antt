@@ -2,7 +2,7 @@
 use Prim.Native.Nat.{ℕ}
 use mathlib.Core.List.{List, []}
 use mathlib.Core.Option.{Option, none, some, Option·map}
-use mathlib.Core.Bool.{Bool, false, cond}
+use mathlib.Core.Bool.{Bool, false, cond, _&&_}
 use Rattle.blockfile.specs.declared.Refusal.{Refusal}
 use Rattle.blockfile.specs.declared.Refusal.the-variants.{NoRoom}
 use Rattle.blockfile.specs.Bytes.{Write}
@@ -12,7 +12,7 @@ use Rattle.blockfile.specs.Plan.{Plan, lacks, writesOf}
 use Rattle.blockfile.specs.Put.{putPlan}
 use Rattle.blockfile.specs.Remove.{removePlan}
 use Rattle.blockfile.specs.Create.{createPlan}
-use Rattle.blockfile.specs.Refusals.{Op, check, get, put, remove, next, create, Reply, refusal, ledgerOf, refused, handed, doneReply}
+use Rattle.blockfile.specs.Refusals.{Op, check, get, put, remove, next, create, Reply, refusal, ledgerOf, refused, mayLack, handed, doneReply}
 
 -- the numbers of the result, the bytes handed out, and what is written on the image
 pub record Outcome : Type 0 where
@@ -37,10 +37,13 @@ planOf L (remove n k) = onTable L n (λ t. removePlan L n t k)
 planOf L (next n k) = none
 planOf L (create n) = some (createPlan L n)
 
--- row 10 of the refusal table
 abbrev pub lacking : Layout → Option Plan → Bool
 lacking L none = false
 lacking L (some p) = lacks L p
+
+-- row 10 of the refusal table
+abbrev pub noRoom : Layout → Op → Bool
+noRoom L op = mayLack op && lacking L (planOf L op)
 
 abbrev pub planned : Layout → Option Plan → List Write
 planned L none = []
@@ -49,7 +52,7 @@ planned L (some p) = writesOf L p
 abbrev pub outcomeIf : Layout → Op → Option Refusal → Outcome
 outcomeIf L op (some f) = refuse f
 outcomeIf L op none =
-    cond (lacking L (planOf L op)) (refuse NoRoom)
+    cond (noRoom L op) (refuse NoRoom)
     (record { reply = doneReply (ledgerOf L) (freeCount (L .free)) op; bytes = handed (ledgerOf L) op; writes = planned L (planOf L op) })
 
 -- the lowest row that holds, else what is done; room is the answer buffer's length

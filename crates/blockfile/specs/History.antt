@@ -2,15 +2,15 @@
 use Prim.Native.Nat.{ℕ, _*_}
 use mathlib.Core.Path.{_≡_}
 use mathlib.Core.List.{List, [], _∷_}
-use mathlib.Core.Bool.{Bool, false, not, cond, _&&_}
+use mathlib.Core.Bool.{Bool, not, cond, _&&_}
 use lib.ListN.{length}
 use lib.Dec.{eqb, leb}
 use Rattle.blockfile.specs.Bytes.{apply}
 use Rattle.blockfile.specs.Layout.{Layout, freeCount}
 use Rattle.blockfile.specs.Order.{there}
 use Rattle.blockfile.specs.WellFormed.{WellFormed}
-use Rattle.blockfile.specs.Refusals.{Op, check, get, put, remove, next, create, Reply, Ledger, ledgerOf, refused}
-use Rattle.blockfile.specs.Answers.{outcomeOn, planOf, lacking}
+use Rattle.blockfile.specs.Refusals.{Op, Reply, Ledger, ledgerOf, refused, mayLack}
+use Rattle.blockfile.specs.Answers.{outcomeOn, noRoom}
 use Rattle.blockfile.specs.Calls.{answered, cleared, Keeps}
 use Rattle.blockfile.specs.Ledger.{Fed, Said, step}
 
@@ -29,17 +29,10 @@ abbrev pub Run : List ℕ → List Event → Type 0
 Run img [] = Unit {0}
 Run img (e ∷ es) = Keeps (e .op) img (e .scratch) (e .buffer) (e .reply) (e .image) (e .scratchAfter) (e .bufferAfter) × Run (e .image) es
 
--- what the ledger is fed: for put, remove and create, too, whether the answer was 10
-abbrev pub fedTen : Op → Bool → Bool
-fedTen check b = false
-fedTen (get n k) b = false
-fedTen (put n k v) b = b
-fedTen (remove n k) b = b
-fedTen (next n k) b = false
-fedTen (create n) b = b
-
+-- what the ledger is fed: for put and create, too, whether the answer was 10
 abbrev pub fed : Event → Fed
-fed e = record { op = e .op; scratchLength = length (e .scratch); room = length (e .buffer); ten = fedTen (e .op) (eqb (e .reply .number) 10) }
+fed e =
+    record { op = e .op; scratchLength = length (e .scratch); room = length (e .buffer); ten = mayLack (e .op) && eqb (e .reply .number) 10 }
 
 -- the image has a layout with the ledger's P and tables
 pub record Holds (l : Ledger) (img : List ℕ) : Type 0 where
@@ -51,9 +44,9 @@ pub record Holds (l : Ledger) (img : List ℕ) : Type 0 where
 abbrev pub enough : Layout → (scratchLength : ℕ) → Bool
 enough L n = leb (1024 * L .pages) n
 
--- 10 is due: no lower row holds, and the wanted pages exceed the old continuation pages plus F
+-- 10 is due: no lower row holds, and the pages that a put or a create wants exceed the old continuation pages plus F
 abbrev pub tenDue : Layout → Fed → Bool
-tenDue L c = enough L (c .scratchLength) && (not (there (refused (ledgerOf L) (c .op) (c .room))) && lacking L (planOf L (c .op)))
+tenDue L c = enough L (c .scratchLength) && (not (there (refused (ledgerOf L) (c .op) (c .room))) && noRoom L (c .op))
 
 -- what the ledger says to the call, with F that of the image's layout
 abbrev pub saidTo : Ledger → Layout → Event → Said

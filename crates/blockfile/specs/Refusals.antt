@@ -1,8 +1,8 @@
--- Calls and replies; an image's tables as maps; the refusal table, rows 4 to 9; what done calls answer.
+-- Calls and replies; an image's tables as maps; the refusal table, rows 4 to 9, and which calls have row 10; what done calls answer.
 use Prim.Native.Nat.{ℕ, _+_}
 use mathlib.Core.List.{List, [], _∷_, map}
 use mathlib.Core.Option.{Option, none, some, Option·getD}
-use mathlib.Core.Bool.{Bool, not, cond, _&&_, _||_}
+use mathlib.Core.Bool.{Bool, true, false, not, cond, _&&_, _||_}
 use lib.ListN.{length}
 use lib.Dec.{ltb}
 use Rattle.blockfile.specs.declared.Refusal.{Refusal}
@@ -74,7 +74,7 @@ sought l (remove n k) = find k (mapOf l n)
 sought l (next n k) = above (keyRule n) k (mapOf l n)
 sought l (create n) = none
 
--- ---- The refusal table, rows 4 to 9
+-- ---- The refusal table, rows 4 to 9; which calls have row 10
 
 abbrev pub badName : List ℕ → Bool
 badName n = not (nameRule .allowed n)
@@ -125,6 +125,15 @@ lowest (x ∷ xs) = cond (x .0) (some (x .1)) (lowest xs)
 
 unfoldable pub refused : Ledger → Op → (room : ℕ) → Option Refusal
 refused l op room = lowest (rows l op room)
+
+-- row 10 is for put and create; a remove never wants more pages than its span has
+abbrev pub mayLack : Op → Bool
+mayLack check = false
+mayLack (get n k) = false
+mayLack (put n k v) = true
+mayLack (remove n k) = false
+mayLack (next n k) = false
+mayLack (create n) = true
 
 -- ---- Done
 

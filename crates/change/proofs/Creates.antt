@@ -15,10 +15,13 @@ use Rattle.search.specs.declared.table.Named.{Named}
 use Rattle.search.specs.declared.table.Named.the-variants.{Root, Unknown}
 use Rattle.search.specs.Tables.{NamedAs}
 use Rattle.create.specs.Creates.{NoTable, CreateReady, Created}
-use Rattle.change.specs.Change.{Lending, Changed}
+use Rattle.change.specs.Change.{Lending, LendingFree, Changed}
 use Rattle.refusals.proofs.Tables.{no-table, has-table}
 
-module _ {img s : List ℕ} {free : ℕ} (lent : Lending img s free) (name : List ℕ) where
+module _ {img s : List ℕ} {free : ℕ} (given : LendingFree img s free) (name : List ℕ) where
+  abbrev lent : Lending img s
+  lent = given .lent
+
   pub name-refused : nameRule .allowed name ≡ false → Changed (create name) img (NotWrote NameOrKey) img
   unfolding outcomeOn refused
   name-refused e = record { layout = lent .layout; well = lent .well; writes = []; outcome = rw e; image = refl }
@@ -32,7 +35,7 @@ module _ {img s : List ℕ} {free : ℕ} (lent : Lending img s free) (name : Lis
 
     module _ (e : r ≡ Unknown) where
       none-named : NoTable img free (lent .layout) name
-      none-named = record { well = lent .well; absent = n .is (lent .layout) (lent .well) .unknown e; pages = lent .pages }
+      none-named = record { well = lent .well; absent = n .is (lent .layout) (lent .well) .unknown e; pages = given .pages }
 
       pub create-ready : CreateReady img s free name
       create-ready = record { layout = lent .layout; is = none-named; allowed = holds _ good; lent = lent .long }

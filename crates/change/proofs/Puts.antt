@@ -20,7 +20,7 @@ use Rattle.refusals.specs.declared.table.Entered.{Entered}
 use Rattle.refusals.specs.declared.table.Entered.the-variants.{Refused, Found}
 use Rattle.refusals.specs.Table.{OnTable, NamedTable}
 use Rattle.refusals.proofs.Tables.{rows-left}
-use Rattle.change.specs.Change.{Lending, Changed}
+use Rattle.change.specs.Change.{Lending, LendingFree, Changed}
 use Rattle.change.proofs.Named.{named-refused, found, table-at, allowed}
 
 not-not : (b : Bool) → b ≡ not (not b)
@@ -36,7 +36,10 @@ module _ {name key value : List ℕ} {legal short : Bool} (j : Judged name key v
   abbrev put-on : OnTable (put name key value) name legal short
   put-on = record { more = λ l room. []; are = λ l room. rw (j .key-is, j .value-is, sym (not-not (ltb 65535 (length value)))) }
 
-  module _ {img s : List ℕ} {free : ℕ} (lent : Lending img s free) {r : Entered} (n : NamedTable img name legal short r) where
+  module _ {img s : List ℕ} {free : ℕ} (given : LendingFree img s free) {r : Entered} (n : NamedTable img name legal short r) where
+    abbrev lent : Lending img s
+    lent = given .lent
+
     pub put-refused : (f : Refusal) → r ≡ Refused f → Changed (put name key value) img (NotWrote f) img
     put-refused = named-refused lent n put-on
 
@@ -48,6 +51,7 @@ module _ {name key value : List ℕ} {legal short : Bool} (j : Judged name key v
             name = name;
             table = found lent n page e .1 .table;
             is = table-at lent n page e;
+            pages = given .pages;
             allowed = holds _ (sym (j .key-is) ∙ allowed lent n page e .0);
             short = ltb-false 65535 (length value) (not-true _ (sym (j .value-is) ∙ allowed lent n page e .1));
             lent = lent .long;
@@ -59,7 +63,7 @@ module _ {name key value : List ℕ} {legal short : Bool} (j : Judged name key v
         put-done h =
             let L = lent .layout in
             let t = found lent n page e .1 .table in
-            let f = d .done h L name t (table-at lent n page e) in
+            let f = d .done h L name t (table-at lent n page e) (given .pages) in
             record {
               layout = L;
               well = lent .well;
@@ -73,7 +77,7 @@ module _ {name key value : List ℕ} {legal short : Bool} (j : Judged name key v
         put-full h =
             let L = lent .layout in
             let t = found lent n page e .1 .table in
-            let f = d .refused h L name t (table-at lent n page e) in
+            let f = d .refused h L name t (table-at lent n page e) (given .pages) in
             record {
               layout = L;
               well = lent .well;

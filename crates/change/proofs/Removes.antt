@@ -1,10 +1,10 @@
 -- Remove on an accepted image: what it asks of the edit of a table, and one law for each way out.
 use Prim.Native.Nat.{ℕ}
-use mathlib.Core.Path.{_≡_, ap, sym, _∙_, subst}
+use mathlib.Core.Path.{_≡_, ap, sym, _∙_}
 use mathlib.Core.List.{List, [], _∷_}
-use mathlib.Core.Bool.{Bool, true, not}
+use mathlib.Core.Bool.{Bool, true, false, not}
 use Rattle.blockfile.specs.declared.Refusal.{Refusal}
-use Rattle.blockfile.specs.declared.Refusal.the-variants.{NoKey, NoRoom}
+use Rattle.blockfile.specs.declared.Refusal.the-variants.{NoKey}
 use Rattle.blockfile.specs.declared.Wrote.the-variants.{Done, Refused as NotWrote}
 use Rattle.blockfile.specs.Layout.{Table, Layout, entriesOf}
 use Rattle.blockfile.specs.Order.{keyRule, find, there}
@@ -13,9 +13,7 @@ use Rattle.blockfile.specs.Remove.{removePlan}
 use Rattle.blockfile.specs.Refusals.{remove, ledgerOf, sought}
 use Rattle.blockfile.specs.Answers.{onTable, outcomeOn}
 use Rattle.blockfile.proofs.Bools.{holds}
-use Rattle.remove.specs.declared.remove.Removed.{Removed}
-use Rattle.remove.specs.declared.remove.Removed.the-variants.{Done as Gone, NoKey as Missing, NoRoom as Full}
-use Rattle.remove.specs.Removes.{Answers, RemoveReady, RemoveDone}
+use Rattle.remove.specs.Removes.{RemoveReady, RemoveDone}
 use Rattle.refusals.specs.declared.table.Entered.{Entered}
 use Rattle.refusals.specs.declared.table.Entered.the-variants.{Refused, Found}
 use Rattle.refusals.specs.Table.{OnTable, NamedTable}
@@ -31,7 +29,7 @@ module _ {name key : List ℕ} {legal : Bool} (j : Judged name key legal) where
   abbrev remove-on : OnTable (remove name key) name legal true
   remove-on = record { more = λ l room. (not (there (sought l (remove name key))), NoKey) ∷ []; are = λ l room. rw (j .key-is) }
 
-  module _ {img s : List ℕ} {free : ℕ} (lent : Lending img s free) {r : Entered} (n : NamedTable img name legal true r) where
+  module _ {img s : List ℕ} (lent : Lending img s) {r : Entered} (n : NamedTable img name legal true r) where
     pub remove-refused : (f : Refusal) → r ≡ Refused f → Changed (remove name key) img (NotWrote f) img
     remove-refused = named-refused lent n remove-on
 
@@ -42,7 +40,7 @@ module _ {name key : List ℕ} {legal : Bool} (j : Judged name key legal) where
       abbrev t : Table
       t = found lent n page e .1 .table
 
-      pub remove-ready : RemoveReady img s page free key
+      pub remove-ready : RemoveReady img s page key
       remove-ready =
           record {
             layout = L;
@@ -57,36 +55,21 @@ module _ {name key : List ℕ} {legal : Bool} (j : Judged name key legal) where
       looked : sought (ledgerOf L) (remove name key) ≡ find key (entriesOf t)
       looked = ap (find key) (its-map L name t (found lent n page e .1 .found))
 
-      module _ (b : Removed) (new : List ℕ) (d : RemoveDone img page free key b new) where
-        answers : (a : Removed) → b ≡ a → Answers img key a new L name t
-        answers a q = subst (λ (x : Removed). Answers img key x new L name t) q (d .is L name t (table-at lent n page e))
-
-        pub remove-done : b ≡ Gone → Changed (remove name key) img Done new
+      module _ (b : Bool) (new : List ℕ) (d : RemoveDone img page key b new) where
+        pub remove-done : b ≡ true → Changed (remove name key) img Done new
         unfolding outcomeOn onTable
         remove-done q =
-            let f = answers Gone q in
+            let f = d .done q L name t (table-at lent n page e) in
             record {
               layout = L;
               well = lent .well;
               writes = writesOf L (removePlan L name t key);
-              outcome = rw (rows-left remove-on L 0 (found lent n page e .0), looked, f .0 .1, found lent n page e .1 .found, f .1);
-              image = f .2;
+              outcome = rw (rows-left remove-on L 0 (found lent n page e .0), looked, f .0 .1, found lent n page e .1 .found);
+              image = f .1;
             }
 
-        pub remove-missing : b ≡ Missing → Changed (remove name key) img (NotWrote NoKey) new
+        pub remove-missing : b ≡ false → Changed (remove name key) img (NotWrote NoKey) new
         unfolding outcomeOn
         remove-missing q =
-            let f = answers Missing q in
+            let f = d .missing q L name t (table-at lent n page e) in
             record { layout = L; well = lent .well; writes = []; outcome = rw (rows-left remove-on L 0 (found lent n page e .0), looked, f .0); image = f .1 }
-
-        pub remove-full : b ≡ Full → Changed (remove name key) img (NotWrote NoRoom) new
-        unfolding outcomeOn onTable
-        remove-full q =
-            let f = answers Full q in
-            record {
-              layout = L;
-              well = lent .well;
-              writes = [];
-              outcome = rw (rows-left remove-on L 0 (found lent n page e .0), looked, f .0 .1, found lent n page e .1 .found, f .1);
-              image = f .2;
-            }

@@ -1,6 +1,6 @@
 // Put on an accepted image: the refusals 4 to 6 and 10, and the change.
 ghost use Rattle.blockfile.specs.Refusals.{put};
-ghost use Rattle.change.specs.Change.{Lending, Changed};
+ghost use Rattle.change.specs.Change.{LendingFree, Changed};
 use blockfile::Refusal;
 use blockfile::Wrote;
 use edit::put::put;
@@ -19,7 +19,7 @@ pub fn put_entry(
     key: &[u8],
     value: &[u8],
 ) -> Wrote
-    requires { ⌜ Lending (now image) (now scratch) free ⌝ }
+    requires { ⌜ LendingFree (now image) (now scratch) free ⌝ }
     ensures { λ r. ⌜ Changed (put (now (name .entry)) (now (key .entry)) (now (value .entry))) (now (image .entry)) r (now (image .exit)) ⌝ }
 {
     match named_table(image, name, is_key(key), is_value(value)) {

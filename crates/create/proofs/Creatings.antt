@@ -56,7 +56,6 @@ module _ {img : List ℕ} {free : ℕ} {L : Layout} {name : List ℕ} (a : NoTab
                     at = f .is reading;
                     fits = record { drops = spotted .bit; adds = omega arith; inside = spotted .inside; few = spotted .few };
                   };
-                  pages = sym (a .pages);
                   few = subst (λ (es : List Entry). length es ≤ L .meta .spanSize + 1) (spotted .put v) (put-few nameRule names-ordered (L .meta) (a .well .metaOk) name v);
                 };
             puts = λ v. sym (spotted .put v);

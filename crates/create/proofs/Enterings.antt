@@ -51,7 +51,7 @@ module _ {img : List ℕ} {page free : ℕ} {c : Change} {name : List ℕ} {L : 
   w = wantedBy (parts (L .meta) (metaWith L name i 0))
 
   -- the change, with any value
-  abbrev any : RewriteOf img 2 page free c name (word32 0) nameRule (L .meta) (L .free) i
+  abbrev any : RewriteOf img 2 page c name (word32 0) nameRule (L .meta) (L .free) i
   any = e .rewrite (word32 0)
 
   free-shown : FreeList img (L .free)
@@ -97,7 +97,7 @@ module _ {img : List ℕ} {page free : ℕ} {c : Change} {name : List ℕ} {L : 
       old-is = counted any plan n m
 
       pub reach-few : n + free ≤ 4096
-      reach-few = omega (arith, old-is, any .pages, all-few any, small)
+      reach-few = omega (arith, old-is, e .none .pages, all-few any, small)
 
       -- no page is left over
       pub all-used : n ≤ wantedOf x
@@ -108,27 +108,26 @@ module _ {img : List ℕ} {page free : ℕ} {c : Change} {name : List ℕ} {L : 
       not-enough l =
           record {
             done = λ a. absurd (true≢false (sym a));
-            refused = λ a. (lt-ltb (length old + freeCount (L .free)) (w + 3) (omega (arith, old-is, wanted-is, any .pages)), refl);
+            refused = λ a. (lt-ltb (length old + freeCount (L .free)) (w + 3) (omega (arith, old-is, wanted-is, e .none .pages)), refl);
           }
 
       -- ---- There is room
 
       module _ (l : wantedOf x + 3 ≤ n + free) where
         pub pages-ahead : Ahead img (wantedOf x - n + 2)
-        pages-ahead = record { free = L .free; shown = free-shown; more = omega (arith, any .pages, all-used) }
+        pages-ahead = record { free = L .free; shown = free-shown; more = omega (arith, e .none .pages, all-used) }
 
         carries : 1024 * x .base ≡ length img → (v : List ℕ) → length v ≡ 4 → Carries img x c name v nameRule (L .meta) (L .free) i
         carries k v four =
             record {
               root = 2;
               page = page;
-              free = free;
               more = 3;
               base = base;
               is = e .rewrite v;
               plan = with-value v four;
               whole = k;
-              room = omega (arith, old-is, any .pages, q .further);
+              room = omega (arith, old-is, e .none .pages, q .further);
             }
 
         -- ---- The pages drawn
@@ -137,7 +136,7 @@ module _ {img : List ℕ} {page free : ℕ} {c : Change} {name : List ℕ} {L : 
         drawn = draw old (w + 3) [] (L .free)
 
         room : w + 3 ≤ length old + freeCount (L .free)
-        room = omega (arith, old-is, wanted-is, any .pages)
+        room = omega (arith, old-is, wanted-is, e .none .pages)
 
         -- a page of the table is the one drawn at its place
         drawn-as : (k j place : ℕ) → k < 3 → j ≡ wantedOf x - n + k → place ≡ w + k → (r : ℕ) → TakenAfter img j r → r ≡ getD (drawn .pages) place 0

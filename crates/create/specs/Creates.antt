@@ -32,7 +32,7 @@ pub record Outcome (img : List ℕ) (L : Layout) (name : List ℕ) (r : Bool) (o
 -- the change, of the metaindex's target span on the page, puts the name in
 pub record Enters (img : List ℕ) (page free : ℕ) (c : Change) (name : List ℕ) (L : Layout) : Type 0 where
   pub none : NoTable img free L name
-  pub rewrite : (v : List ℕ) → RewriteOf img 2 page free c name v nameRule (L .meta) (L .free) (target nameRule name (L .meta))
+  pub rewrite : (v : List ℕ) → RewriteOf img 2 page c name v nameRule (L .meta) (L .free) (target nameRule name (L .meta))
   pub puts : (v : List ℕ) → changed (L .meta) (target nameRule name (L .meta)) c name v
       ≡ insert nameRule name v (spanAt (L .meta) (target nameRule name (L .meta)) .entries)
 

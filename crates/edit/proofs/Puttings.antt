@@ -1,16 +1,15 @@
 -- The ways through `put`: the change of its spot is the text's plan.
 use Prim.Native.Nat.{ℕ, _+_, _≤_, _<_}
 use native.Mathlib.Omega.{arith}
-use mathlib.Core.Path.{_≡_, ap, sym, subst}
+use mathlib.Core.Path.{_≡_, ap, sym, _∙_, subst}
 use mathlib.Core.Bool.{Bool, true, false}
-use mathlib.Core.List.{List, [], _++_}
+use mathlib.Core.List.{List, _++_}
 use lib.ListN.{length}
 use borrow.Author.Tests.{le-ltb, lt-ltb}
-use Rattle.blockfile.specs.Bytes.{apply}
+use Rattle.blockfile.specs.Bytes.{Write, apply}
 use Rattle.blockfile.specs.Layout.{Entry, Span, Table, Layout, columns, freeCount}
 use Rattle.blockfile.specs.Order.{KeyRule, keyRule, insert}
 use Rattle.blockfile.specs.WellFormed.{TableOk}
-use Rattle.blockfile.specs.Free.{draw}
 use Rattle.blockfile.specs.Plan.{lacks, writesOf}
 use Rattle.blockfile.specs.Put.{target, spanAt, parts, wantedBy, rewrite, rewritePlan, putPlan}
 use Rattle.laws.proofs.Orders.{keys-ordered}
@@ -24,30 +23,31 @@ use Rattle.search.proofs.Tables.{reading-span, reading-at, reading-rule}
 use Rattle.stage.specs.declared.change.Change.{Change}
 use Rattle.stage.specs.declared.change.Spot.{Spot}
 use Rattle.stage.specs.Changes.{Spotted, SpottedOn}
-use Rattle.edit.specs.Rewrites.{changed, RewriteOf, RewriteReady, Rewritten}
+use Rattle.edit.specs.Rewrites.{changed, writesFor, RewriteOf, RewriteReady, Rewritten}
 use Rattle.edit.specs.Puts.{TableAt, PutReady, PutDone}
 use Rattle.edit.proofs.Stands.{table-standing}
 
 -- a span rewritten with the entries es is the text's plan for them
-module _ (L : Layout) (name : List ℕ) {img : List ℕ} {root page free : ℕ} {c : Change} {k v : List ℕ} {r : KeyRule} {t : Table} {i : ℕ}
-    (o : RewriteOf img root page free c k v r t (L .free) i) {es : List Entry} (e : changed t i c k v ≡ es) {done : Bool} {out : List ℕ}
-    (w : Rewritten img root page free c k v done out) where
-  pub rewrite-done : done ≡ true → (lacks L (rewritePlan L name t i es) ≡ false) × (out ≡ apply (writesOf L (rewritePlan L name t i es)) img)
-  unfolding lacks writesOf rewritePlan
-  rewrite-done d =
-      let y : (wantedBy (parts t es) ≤ length (spanAt t i .conts) + freeCount (L .free))
-      × (out ≡ apply (draw (spanAt t i .conts) (wantedBy (parts t es)) [] (L .free) .writes
-      ++ rewrite t i es (draw (spanAt t i .conts) (wantedBy (parts t es)) [] (L .free) .pages) .writes) img)
-      = subst (λ (fs : List Entry). (wantedBy (parts t fs) ≤ length (spanAt t i .conts) + freeCount (L .free))
-      × (out ≡ apply (draw (spanAt t i .conts) (wantedBy (parts t fs)) [] (L .free) .writes
-      ++ rewrite t i fs (draw (spanAt t i .conts) (wantedBy (parts t fs)) [] (L .free) .pages) .writes) img)) e
-      (w .yes d r t (L .free) i o) in
-      (le-ltb (length (spanAt t i .conts) + freeCount (L .free)) (wantedBy (parts t es)) (y .0), y .1)
+pub plan-writes : (L : Layout) (name : List ℕ) (t : Table) (i : ℕ) {es fs : List Entry} → fs ≡ es → writesFor t i (L .free) fs ≡ writesOf L (rewritePlan L name t i es)
+unfolding writesOf rewritePlan
+plan-writes L name t i e = ap (writesFor t i (L .free)) e
 
-  pub rewrite-refused : done ≡ false → (lacks L (rewritePlan L name t i es) ≡ true) × (out ≡ img)
+module _ (L : Layout) (name : List ℕ) {img : List ℕ} {root page free : ℕ} {c : Change} {k v : List ℕ} {r : KeyRule} {t : Table} {i : ℕ}
+    (o : RewriteOf img root page c k v r t (L .free) i) (f : free ≡ freeCount (L .free)) {es : List Entry} (e : changed t i c k v ≡ es) {done : Bool} {out : List ℕ}
+    (w : Rewritten img root page free c k v done out) where
+  rewrite-done : done ≡ true → (lacks L (rewritePlan L name t i es) ≡ false) × (out ≡ apply (writesOf L (rewritePlan L name t i es)) img)
+  unfolding lacks rewritePlan
+  rewrite-done d =
+      let y = w .yes d r t (L .free) i o f in (
+        le-ltb (length (spanAt t i .conts) + freeCount (L .free)) (wantedBy (parts t es))
+            (subst (λ (fs : List Entry). wantedBy (parts t fs) ≤ length (spanAt t i .conts) + freeCount (L .free)) e (y .0)),
+        y .1 ∙ ap (λ (ws : List Write). apply ws img) (plan-writes L name t i e),
+      )
+
+  rewrite-refused : done ≡ false → (lacks L (rewritePlan L name t i es) ≡ true) × (out ≡ img)
   unfolding lacks rewritePlan
   rewrite-refused d =
-      let n = w .no d r t (L .free) i o in (
+      let n = w .no d r t (L .free) i o f in (
         lt-ltb (length (spanAt t i .conts) + freeCount (L .free)) (wantedBy (parts t es))
             (subst (λ (fs : List Entry). length (spanAt t i .conts) + freeCount (L .free) < wantedBy (parts t fs)) e (n .0)),
         n .1,
@@ -57,7 +57,7 @@ module _ (L : Layout) (name : List ℕ) {img : List ℕ} {root page free : ℕ} 
 abbrev pub putAt : Spot → Change
 putAt s = record { index = s .index; drops = s .there; adds = 1 }
 
-module _ {img : List ℕ} {root free : ℕ} {L : Layout} {name : List ℕ} {t : Table} (a : TableAt img root free L name t) (k : List ℕ) where
+module _ {img : List ℕ} {root : ℕ} {L : Layout} {name : List ℕ} {t : Table} (a : TableAt img root L name t) (k : List ℕ) where
   abbrev pub reading : Reading img root
   reading = table-reading img L (a .well) name t (a .found) root (a .at)
 
@@ -85,7 +85,7 @@ module _ {img : List ℕ} {root free : ℕ} {L : Layout} {name : List ℕ} {t : 
       inserted : (v : List ℕ) → changed t place (putAt s) k v ≡ insert (keyRule name) k v (spanAt t place .entries)
       inserted v = sym (spotted .put v)
 
-      pub rewrite-of : (v : List ℕ) → RewriteOf img root page free (putAt s) k v (keyRule name) t (L .free) place
+      pub rewrite-of : (v : List ℕ) → RewriteOf img root page (putAt s) k v (keyRule name) t (L .free) place
       rewrite-of v =
           record {
             standing = table-standing img L (a .well) name t (a .found);
@@ -95,18 +95,17 @@ module _ {img : List ℕ} {root free : ℕ} {L : Layout} {name : List ℕ} {t : 
               at = f .is reading;
               fits = record { drops = spotted .bit; adds = omega arith; inside = spotted .inside; few = spotted .few };
             };
-            pages = sym (a .pages);
             few = subst (λ (es : List Entry). length es ≤ t .spanSize + 1) (sym (inserted v)) (put-few (keyRule name) (keys-ordered name) t ok k v);
           }
 
-      module _ (v : List ℕ) (r : Bool) (out : List ℕ) (w : Rewritten img root page free (putAt s) k v r out) where
+      module _ {free : ℕ} (h : freeCount (L .free) ≡ free) (v : List ℕ) (r : Bool) (out : List ℕ) (w : Rewritten img root page free (putAt s) k v r out) where
         pub put-done : r ≡ true → (lacks L (putPlan L name t k v) ≡ false) × (out ≡ apply (writesOf L (putPlan L name t k v)) img)
         unfolding putPlan
-        put-done e = rewrite-done L name (rewrite-of v) (inserted v) w e
+        put-done e = rewrite-done L name (rewrite-of v) (sym h) (inserted v) w e
 
         pub put-refused : r ≡ false → (lacks L (putPlan L name t k v) ≡ true) × (out ≡ img)
         unfolding putPlan
-        put-refused e = rewrite-refused L name (rewrite-of v) (inserted v) w e
+        put-refused e = rewrite-refused L name (rewrite-of v) (sym h) (inserted v) w e
 
 module _ {img scratch : List ℕ} {root free : ℕ} {k v : List ℕ} (h : PutReady img scratch root free k v) (page : ℕ) (f : TargetIn img root k page) where
   pub spot-ready : SpanOn img page
@@ -120,6 +119,7 @@ module _ {img scratch : List ℕ} {root free : ℕ} {k v : List ℕ} (h : PutRea
         blocks = h .layout .free;
         place = target (keyRule (h .name)) k (h .table);
         is = rewrite-of (h .is) k page f s g v;
+        pages = sym (h .pages);
         short = keys-short (h .name) k (h .allowed);
         brief = h .short;
         lent = h .lent;
@@ -128,4 +128,4 @@ module _ {img scratch : List ℕ} {root free : ℕ} {k v : List ℕ} (h : PutRea
 pub put-answered : {img : List ℕ} {root free : ℕ} {k v : List ℕ} (page : ℕ) → TargetIn img root k page → (s : Spot) → SpottedOn img page k s → (r : Bool) (out : List ℕ)
     → Rewritten img root page free (putAt s) k v r out → PutDone img root free k v r out
 put-answered {k = k} {v} page f s g r out w =
-    record { done = λ e L name t a. put-done a k page f s g v r out w e; refused = λ e L name t a. put-refused a k page f s g v r out w e }
+    record { done = λ e L name t a h. put-done a k page f s g h v r out w e; refused = λ e L name t a h. put-refused a k page f s g h v r out w e }

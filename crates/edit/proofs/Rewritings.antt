@@ -23,7 +23,7 @@ use Rattle.edit.specs.Makes.{Changes, PlanReady, PlanOf, PlanFor}
 use Rattle.edit.specs.Stages.{coming, PartsFor, PartsReady, PartsIn, PartsStaged}
 use Rattle.edit.specs.Applies.{wantedOf, totalOf}
 use Rattle.edit.specs.Commits.{CommitOf, CommitReady, drawnWith, drawnFor, Committed}
-use Rattle.edit.specs.Rewrites.{changed, RewriteOf, Carries, CarryReady, Carried, RewriteReady, Rewritten}
+use Rattle.edit.specs.Rewrites.{changed, writesFor, RewriteOf, Carries, CarryReady, Carried, RewriteReady, Rewritten}
 use Rattle.edit.proofs.Stands.{columns-few}
 use Rattle.edit.proofs.Makings.{span-on, entries-on, conts-on, fits-on}
 use Rattle.edit.proofs.Committing.{plan-total, stay-half, move-half, drawn-few}
@@ -41,8 +41,8 @@ some-reach : (es : List Entry) → 1 ≤ spanWanted es → spanWanted es ≡ rea
 some-reach [] l = absurd (omega arith)
 some-reach (e ∷ es) l = refl
 
-module _ {img : List ℕ} {root page free : ℕ} {c : Change} {k v : List ℕ} {r : KeyRule} {t : Table} {bs : List Block} {i : ℕ}
-    (o : RewriteOf img root page free c k v r t bs i) where
+module _ {img : List ℕ} {root page : ℕ} {c : Change} {k v : List ℕ} {r : KeyRule} {t : Table} {bs : List Block} {i : ℕ}
+    (o : RewriteOf img root page c k v r t bs i) where
   abbrev pub table-at : Reading img root
   table-at = record { rule = r; table = t; readable = o .standing .readable; root = sym (o .at) }
 
@@ -183,48 +183,60 @@ drawn-plain t i bs es n z =
     let e : wantedBy (parts t es) + n ≡ wantedBy (parts t es) = omega arith in
     ap (λ (w : ℕ). draw (spanAt t i .conts) w [] bs) e
 
-module _ {img b : List ℕ} {root page free : ℕ} {c : Change} {k v : List ℕ} (h : RewriteReady img b root page free c k v) where
-  pub plan-ready : PlanReady img root page c (length k + length v)
-  plan-ready =
-      record {
-        reading = table-at (h .is);
-        place = h .place;
-        change = h .is .change;
-        few = columns-few (h .is .standing);
-        short = omega (arith, h .short, h .brief);
-      }
+module _ {img : List ℕ} {root page : ℕ} {c : Change} {k v : List ℕ} {r : KeyRule} {t : Table} {bs : List Block} {i : ℕ}
+    (o : RewriteOf img root page c k v r t bs i) where
+  pub plan-ready : length k + length v ≤ 131070 → PlanReady img root page c (length k + length v)
+  plan-ready l = record { reading = table-at o; place = i; change = o .change; few = columns-few (o .standing); short = l }
 
-  pub whole-pages : {base : ℕ} {x : Plan} → base ≡ length img / 1024 → PlanFor img root page c (length k + length v) 0 base x → 1024 * x .base ≡ length img
-  whole-pages e q = omega (arith, q .words, h .is .standing .shows .size)
+  -- there is room, and no further pages are wanted
+  module _ {x : Plan} (q : PlanFor img root page c (length k + length v) 0 (length img / 1024) x)
+      (room : wantedBy (parts t (changed t i c k v)) ≤ length (spanAt t i .conts) + freeCount bs) where
+    pub carries : Carries img x c k v r t bs i
+    carries =
+        record {
+          root = root;
+          page = page;
+          more = 0;
+          base = length img / 1024;
+          is = o;
+          plan = q;
+          whole = omega (arith, q .words, o .standing .shows .size);
+          room = omega (arith, plan-total (plan-is o q), q .further, room);
+        }
 
-module _ {img : List ℕ} {root page free : ℕ} {c : Change} {k v : List ℕ} {base : ℕ} {x : Plan} (q : PlanFor img root page c (length k + length v) 0 base x)
+    pub written : {out : List ℕ} → Carried img x c k v out → out ≡ apply (writesFor t i bs (changed t i c k v)) img
+    written d =
+        let es : List Entry = changed t i c k v in
+        d .image r t bs i carries ∙ ap (λ (y : Drawn). apply (y .writes ++ rewrite t i es (y .pages) .writes) img) (drawn-plain t i bs es (x .more) (q .further))
+
+module _ {img : List ℕ} {root page free : ℕ} {c : Change} {k v : List ℕ} {x : Plan} (q : PlanFor img root page c (length k + length v) 0 (length img / 1024) x)
     (n : ℕ) (m : ContsCounted img page n) where
   pub no-room : n + free < wantedOf x → Rewritten img root page free c k v false img
   no-room l =
       record {
         yes = λ e. absurd (true≢false (sym e));
-        no = λ e r t bs i o. (omega (arith, counted o q n m, o .pages, plan-total (plan-is o q)), refl);
+        no = λ e r t bs i o f. (omega (arith, counted o q n m, f, plan-total (plan-is o q)), refl);
       }
 
-  has-room : {r : KeyRule} {t : Table} {bs : List Block} {i : ℕ} → wantedOf x ≤ n + free → RewriteOf img root page free c k v r t bs i
-      → totalOf x ≤ length (spanAt t i .conts) + freeCount bs
-  has-room l o = omega (arith, counted o q n m, o .pages, q .further)
+  module _ (l : wantedOf x ≤ n + free) where
+    has-room : {r : KeyRule} {t : Table} {bs : List Block} {i : ℕ} → RewriteOf img root page c k v r t bs i → free ≡ freeCount bs
+        → wantedBy (parts t (changed t i c k v)) ≤ length (spanAt t i .conts) + freeCount bs
+    has-room o f = omega (arith, counted o q n m, f, plan-total (plan-is o q))
 
-  carries : {r : KeyRule} {t : Table} {bs : List Block} {i : ℕ} → wantedOf x ≤ n + free → 1024 * x .base ≡ length img → RewriteOf img root page free c k v r t bs i
-      → Carries img x c k v r t bs i
-  carries l w o = record { root = root; page = page; free = free; more = 0; base = base; is = o; plan = q; whole = w; room = has-room l o }
+    pub carry-ready : {b : List ℕ} → RewriteReady img b root page free c k v → CarryReady img b x c k v
+    carry-ready h =
+        record {
+          rule = h .rule;
+          table = h .table;
+          blocks = h .blocks;
+          place = h .place;
+          carries = carries (h .is) q (has-room (h .is) (h .pages));
+          lent = h .lent;
+        }
 
-  pub carry-ready : wantedOf x ≤ n + free → 1024 * x .base ≡ length img → (b : List ℕ) → RewriteReady img b root page free c k v → CarryReady img b x c k v
-  carry-ready l w b h = record { rule = h .rule; table = h .table; blocks = h .blocks; place = h .place; carries = carries l w (h .is); lent = h .lent }
-
-  pub rewritten : wantedOf x ≤ n + free → 1024 * x .base ≡ length img → (out : List ℕ) → Carried img x c k v out → Rewritten img root page free c k v true out
-  rewritten l w out d =
-      record {
-        yes = λ a r t bs i o.
-            let es : List Entry = changed t i c k v in (
-              omega (arith, has-room l o, plan-total (plan-is o q)),
-              d .image r t bs i (carries l w o)
-                  ∙ ap (λ (y : Drawn). apply (y .writes ++ rewrite t i es (y .pages) .writes) img) (drawn-plain t i bs es (x .more) (q .further)),
-            );
-        no = λ a. absurd (true≢false a);
-      }
+    pub rewritten : {out : List ℕ} → Carried img x c k v out → Rewritten img root page free c k v true out
+    rewritten d =
+        record {
+          yes = λ a r t bs i o f. (has-room o f, written o q (has-room o f) d);
+          no = λ a. absurd (true≢false a);
+        }

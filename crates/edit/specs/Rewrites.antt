@@ -4,7 +4,7 @@ use mathlib.Core.Path.{_≡_}
 use mathlib.Core.Bool.{Bool, true, false}
 use mathlib.Core.List.{List, _++_}
 use lib.ListN.{length}
-use Rattle.blockfile.specs.Bytes.{apply}
+use Rattle.blockfile.specs.Bytes.{Write, apply}
 use Rattle.blockfile.specs.Layout.{Entry, Table, Block, freeCount}
 use Rattle.blockfile.specs.Order.{KeyRule}
 use Rattle.blockfile.specs.Put.{spanAt, parts, wantedBy, rewrite}
@@ -21,12 +21,15 @@ use Rattle.edit.specs.Commits.{drawnWith, drawnFor}
 abbrev pub changed : Table → (i : ℕ) → Change → (k v : List ℕ) → List Entry
 changed t i c k v = spliced c (coming k v) (spanAt t i .entries)
 
+-- what is written where the span at place i gets these entries
+abbrev pub writesFor : Table → (i : ℕ) → List Block → List Entry → List Write
+writesFor t i bs es = drawnFor t i bs es .writes ++ rewrite t i es (drawnFor t i bs es .pages) .writes
+
 -- the change is one of the span at place i of the table
-pub record RewriteOf (img : List ℕ) (root page free : ℕ) (c : Change) (k v : List ℕ) (r : KeyRule) (t : Table) (bs : List Block) (i : ℕ) : Type 0 where
+pub record RewriteOf (img : List ℕ) (root page : ℕ) (c : Change) (k v : List ℕ) (r : KeyRule) (t : Table) (bs : List Block) (i : ℕ) : Type 0 where
   pub standing : Standing img r t bs
   pub at : root ≡ t .root
   pub change : Changes t i page c
-  pub pages : free ≡ freeCount bs
   pub few : length (changed t i c k v) ≤ t .spanSize + 1
 
 -- ---- A plan carried out
@@ -35,10 +38,9 @@ pub record RewriteOf (img : List ℕ) (root page free : ℕ) (c : Change) (k v :
 pub record Carries (img : List ℕ) (x : Plan) (c : Change) (k v : List ℕ) (r : KeyRule) (t : Table) (bs : List Block) (i : ℕ) : Type 0 where
   pub root : ℕ
   pub page : ℕ
-  pub free : ℕ
   pub more : ℕ
   pub base : ℕ
-  pub is : RewriteOf img root page free c k v r t bs i
+  pub is : RewriteOf img root page c k v r t bs i
   pub plan : PlanFor img root page c (length k + length v) more base x
   pub whole : 1024 * x .base ≡ length img
   pub room : totalOf x ≤ length (spanAt t i .conts) + freeCount bs
@@ -63,15 +65,16 @@ pub record RewriteReady (img buffer : List ℕ) (root page free : ℕ) (c : Chan
   pub table : Table
   pub blocks : List Block
   pub place : ℕ
-  pub is : RewriteOf img root page free c k v rule table blocks place
+  pub is : RewriteOf img root page c k v rule table blocks place
+  pub pages : free ≡ freeCount blocks
   pub short : length k ≤ 65535
   pub brief : length v ≤ 65535
   pub lent : length buffer ≡ length img
 
 -- with room for the pages wanted the image is the text's, else it is as it was
 pub record Rewritten (img : List ℕ) (root page free : ℕ) (c : Change) (k v : List ℕ) (done : Bool) (out : List ℕ) : Type 0 where
-  pub yes : done ≡ true → (r : KeyRule) (t : Table) (bs : List Block) (i : ℕ) → RewriteOf img root page free c k v r t bs i
+  pub yes : done ≡ true → (r : KeyRule) (t : Table) (bs : List Block) (i : ℕ) → RewriteOf img root page c k v r t bs i → free ≡ freeCount bs
       → (wantedBy (parts t (changed t i c k v)) ≤ length (spanAt t i .conts) + freeCount bs)
-      × (out ≡ apply (drawnFor t i bs (changed t i c k v) .writes ++ rewrite t i (changed t i c k v) (drawnFor t i bs (changed t i c k v) .pages) .writes) img)
-  pub no : done ≡ false → (r : KeyRule) (t : Table) (bs : List Block) (i : ℕ) → RewriteOf img root page free c k v r t bs i
+      × (out ≡ apply (writesFor t i bs (changed t i c k v)) img)
+  pub no : done ≡ false → (r : KeyRule) (t : Table) (bs : List Block) (i : ℕ) → RewriteOf img root page c k v r t bs i → free ≡ freeCount bs
       → (length (spanAt t i .conts) + freeCount bs < wantedBy (parts t (changed t i c k v))) × (out ≡ img)

@@ -14,13 +14,13 @@ use Rattle.blockfile.specs.Bytes.{Every}
 use Rattle.blockfile.specs.Layout.{Layout, freeCount}
 use Rattle.blockfile.specs.Order.{there}
 use Rattle.blockfile.specs.Refusals.{Op, check, get, put, remove, next, create, Reply, refusal, Ledger, ledgerOf, rows, lowest, refused, handed, doneReply}
-use Rattle.blockfile.specs.Answers.{planOf, lacking}
+use Rattle.blockfile.specs.Answers.{noRoom}
 use Rattle.blockfile.specs.Ledger.{Fed, stays, stepOn, step, tablesAfter}
 use Rattle.blockfile.specs.History.{Event, fed, enough, Followed, Remembered, Demand3}
 use Rattle.laws.proofs.Ledgers.{layout-ok}
 use Rattle.laws.proofs.Room.{put-never-lacks}
 use Rattle.laws.proofs.Unique.{unique}
-use Rattle.history.specs.Runs.{Throughout, InEachRun, NotOneOrThree, NeverOneOrThree, NotForRoom, NeverForRoom}
+use Rattle.history.specs.Runs.{Throughout, InEachRun, NotOneOrThree, NeverOneOrThree, NotForRoom, NeverForRoom, RemoveNotTen, RemoveNeverTen}
 use Rattle.history.proofs.Functions.{demand}
 
 -- what holds of each call that follows the ledger
@@ -97,20 +97,28 @@ never-one-or-three = in-each-run NotOneOrThree not-said
 
 -- ---- Room
 
-not-due : (a b c : Bool) → c ≡ false → (a && (b && c)) ≡ false
-not-due true true c h = h
-not-due true false c h = refl
-not-due false b c h = refl
+-- a call that has room is not answered 10
+not-ten : {l : Ledger} {img : List ℕ} {e : Event} (f : Followed l img e) → noRoom (f .holds .layout) (e .op) ≡ false → e .reply .number ≢ 10
+not-ten {e = e} f h =
+    let M : Layout = f .holds .layout in
+    differs 10 (e .reply .number) (f .ten ∙ not-due (enough M (length (e .scratch))) (not (there (refused (ledgerOf M) (e .op) (length (e .buffer))))) (noRoom M (e .op)) h)
+  where
+    not-due : (a b c : Bool) → c ≡ false → (a && (b && c)) ≡ false
+    not-due true true c h = h
+    not-due true false c h = refl
+    not-due false b c h = refl
 
 pub never-for-room : NeverForRoom
 unfolding NeverForRoom
-never-for-room = in-each-run NotForRoom not-ten
+never-for-room = in-each-run NotForRoom shorter-fits
   where
-    not-ten : (l : Ledger) (img : List ℕ) (e : Event) → Followed l img e → NotForRoom img e
-    not-ten l img e f L w n k v old o found shorter =
-        let M : Layout = f .holds .layout in
-        let same : L ≡ M = unique img L M w (f .holds .well) in
-        let none-lacks : lacking M (planOf M (e .op)) ≡ false
-        = subst (λ (N : Layout). lacking N (planOf N (e .op)) ≡ false) same
-        (subst (λ (op : Op). lacking L (planOf L op) ≡ false) (sym o) (put-never-lacks L (layout-ok img L w) n k v old found shorter)) in
-        differs 10 (e .reply .number) (f .ten ∙ not-due (enough M (length (e .scratch))) (not (there (refused (ledgerOf M) (e .op) (length (e .buffer))))) (lacking M (planOf M (e .op))) none-lacks)
+    shorter-fits : (l : Ledger) (img : List ℕ) (e : Event) → Followed l img e → NotForRoom img e
+    shorter-fits l img e f L w n k v old o found shorter =
+        let room : noRoom L (e .op) ≡ false
+        = subst (λ (op : Op). noRoom L op ≡ false) (sym o) (put-never-lacks L (layout-ok img L w) n k v old found shorter) in
+        not-ten f (subst (λ (N : Layout). noRoom N (e .op) ≡ false) (unique img L (f .holds .layout) w (f .holds .well)) room)
+
+pub remove-never-ten : RemoveNeverTen
+unfolding RemoveNeverTen
+remove-never-ten =
+    in-each-run RemoveNotTen (λ l img e f n k o. not-ten f (subst (λ (op : Op). noRoom (f .holds .layout) op ≡ false) (sym o) refl))

@@ -8,7 +8,7 @@ use lib.ListN.{length}
 use Rattle.blockfile.specs.Layout.{Layout}
 use Rattle.blockfile.specs.Order.{find}
 use Rattle.blockfile.specs.WellFormed.{WellFormed}
-use Rattle.blockfile.specs.Refusals.{Op, put, ledgerOf, mapOf}
+use Rattle.blockfile.specs.Refusals.{Op, put, remove, ledgerOf, mapOf}
 use Rattle.blockfile.specs.History.{Event, Run, Remembered}
 use Rattle.history.specs.Functions.{Calls}
 
@@ -72,3 +72,10 @@ NotForRoom img e =
 
 unfoldable pub NeverForRoom : Type 0
 NeverForRoom = InEachRun NotForRoom
+
+-- nor is a remove (request T-07)
+abbrev pub RemoveNotTen : List ℕ → Event → Type 0
+RemoveNotTen img e = (n k : List ℕ) → e .op ≡ remove n k → e .reply .number ≢ 10
+
+unfoldable pub RemoveNeverTen : Type 0
+RemoveNeverTen = InEachRun RemoveNotTen

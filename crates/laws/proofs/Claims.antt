@@ -1,7 +1,7 @@
 -- Each claim of specs/Claims, by the law that proves it.
 use Prim.Native.Nat.{ℕ, _+_}
 use native.Mathlib.Omega.{arith}
-use mathlib.Core.Path.{_≡_, refl, ap}
+use mathlib.Core.Path.{_≡_, refl, ap, subst}
 use mathlib.Core.Bool.{Bool, true, false, cond}
 use mathlib.Core.List.{List, [], _∷_}
 use mathlib.Core.Option.{Option, none, some}
@@ -9,18 +9,19 @@ use Rattle.blockfile.specs.declared.Refusal.{Refusal}
 use Rattle.blockfile.specs.declared.Refusal.the-variants.{NoRoom}
 use Rattle.blockfile.specs.Bytes.{pg, apply, gather}
 use Rattle.blockfile.specs.Layout.{Table, Layout, freeCount}
-use Rattle.blockfile.specs.WellFormed.{count}
-use Rattle.blockfile.specs.Plan.{Plan}
+use Rattle.blockfile.specs.WellFormed.{count, WellFormed}
+use Rattle.blockfile.specs.Plan.{Plan, lacks}
 use Rattle.blockfile.specs.Refusals.{Op, ledgerOf, refused, handed, doneReply}
-use Rattle.blockfile.specs.Answers.{refuse, planOf, lacking, planned, outcomeIf, outcomeOn}
+use Rattle.blockfile.specs.Answers.{refuse, planOf, lacking, noRoom, planned, outcomeIf, outcomeOn}
 use Rattle.blockfile.proofs.Count.{count-append}
 use Rattle.laws.specs.FreeList.{freePages}
 use Rattle.laws.specs.Owned.{tablePages, changedBy, placeIn}
-use Rattle.laws.specs.Claims.{Decided, OneLayout, Determined, mayChange, PageStays, MetaStays, TableStays, TablesStay, BytesStay, WellAfter, PutHasRoom, RemoveHasRoom}
+use Rattle.laws.specs.Claims.{Decided, OneLayout, Determined, mayChange, PageStays, MetaStays, TableStays, TablesStay, Does, BytesStay, WellAfter, PutHasRoom, ReachNoFurther, RemoveWants, RemoveHasRoom}
 use Rattle.laws.proofs.Unique.{unique, decided as decide}
 use Rattle.laws.proofs.Determined.{determined as determine}
+use Rattle.laws.proofs.Positions.{reach-no-further as no-further}
 use Rattle.laws.proofs.Ledgers.{layout-ok}
-use Rattle.laws.proofs.Room.{put-never-lacks, remove-never-lacks}
+use Rattle.laws.proofs.Room.{put-never-lacks, remove-wants, remove-never-lacks, room-enough}
 use Rattle.laws.proofs.Preserves.{well-after as well}
 use Rattle.laws.proofs.Owners.{under-named, names-apart}
 use Rattle.laws.proofs.Stays.{owned-once, Changes, changes, stays, other-page}
@@ -55,18 +56,18 @@ page-stays img L op room n w z = go (refused (ledgerOf L) op room) refl
         other-page img L (c .table) (placeIn op (c .table)) p (c .change) n
         (omega (arith, count-may n L op, ap (λ (ts : List Table). count n (gather tablePages ts)) (c .is), count-append n (tablePages (c .table)) []))
 
-    done-so : (b : Bool) → lacking L (planOf L op) ≡ b → refused (ledgerOf L) op room ≡ none
+    done-so : (b : Bool) → noRoom L op ≡ b → refused (ledgerOf L) op room ≡ none
         → pg
         (apply
         (cond b (refuse NoRoom) (record { reply = doneReply (ledgerOf L) (freeCount (L .free)) op; bytes = handed (ledgerOf L) op; writes = planned L (planOf L op) }) .writes)
         img) n
         ≡ pg img n
     done-so true e r = refl
-    done-so false e r = planned-so (planOf L op) refl r e
+    done-so false e r = planned-so (planOf L op) refl r (room-enough L (layout-ok img L w) op e)
 
     go : (q : Option Refusal) → refused (ledgerOf L) op room ≡ q → pg (apply (outcomeIf L op q .writes) img) n ≡ pg img n
     go (some f) r = refl
-    go none r = done-so (lacking L (planOf L op)) refl r
+    go none r = done-so (noRoom L op) refl r
 
 pub meta-stays : MetaStays
 unfolding MetaStays PageStays
@@ -88,21 +89,33 @@ tables-stay img L op room n w on h =
 
 -- ---- Bytes
 
+-- what a done call does lacks no pages
+pages-enough : (img : List ℕ) (L : Layout) (op : Op) (room : ℕ) (p : Plan) → WellFormed img L → Does L op room p → lacks L p ≡ false
+pages-enough img L op room p w d = subst (λ (a : Option Plan). lacking L a ≡ false) (d .planned) (room-enough L (layout-ok img L w) op (d .enough))
+
 pub bytes-stay : BytesStay
 unfolding BytesStay
 bytes-stay img L op room p w d =
-    let c : Changes L op p = changes img L w op room (d .allowed) p (d .planned) (d .enough) in
+    let c : Changes L op p = changes img L w op room (d .allowed) p (d .planned) (pages-enough img L op room p w d) in
     (c .table, c .is, stays img L (c .table) (placeIn op (c .table)) p (c .change))
 
 pub well-after : WellAfter
 unfolding WellAfter
-well-after img L op room p w d = well img L op room w (d .allowed) p (d .planned) (d .enough)
+well-after img L op room p w d = well img L op room w (d .allowed) p (d .planned) (pages-enough img L op room p w d)
 
 -- ---- Room
 
 pub put-has-room : PutHasRoom
 unfolding PutHasRoom
 put-has-room img L w n k v old f l = put-never-lacks L (layout-ok img L w) n k v old f l
+
+pub reach-no-further : ReachNoFurther
+unfolding ReachNoFurther
+reach-no-further = no-further
+
+pub remove-wants-few : RemoveWants
+unfolding RemoveWants
+remove-wants-few img L w n k = remove-wants L (layout-ok img L w) n k
 
 pub remove-has-room : RemoveHasRoom
 unfolding RemoveHasRoom

@@ -53,13 +53,18 @@ entries-append v [] fs = refl
 entries-append v (e ∷ es) fs = entries-append (entryEnd v e) es fs
 
 -- taking an entry out never makes the others reach further, page breaks included
-pub erase-end : (v : ℕ) (k : List ℕ) (es : List Entry) → entriesEnd v (erase k es) ≤ entriesEnd v es
+pub reach-no-further : (v : ℕ) (es : List Entry) (e : Entry) (fs : List Entry) → entriesEnd v (es ++ fs) ≤ entriesEnd v (es ++ (e ∷ fs))
 unfolding entryEnd
+reach-no-further v [] e fs = entries-mono v (entryEnd v e) fs (let l : v ≤ lensAt v = lens-after v in omega arith)
+reach-no-further v (x ∷ es) e fs = reach-no-further (entryEnd v x) es e fs
+
+-- so dropping a key does not
+erase-end : (v : ℕ) (k : List ℕ) (es : List Entry) → entriesEnd v (erase k es) ≤ entriesEnd v es
 erase-end v k [] = omega arith
 erase-end v k (e ∷ es) = go (same k (e .key)) (erase-end (entryEnd v e) k es)
   where
     go : (b : Bool) → entriesEnd (entryEnd v e) (erase k es) ≤ entriesEnd (entryEnd v e) es → entriesEnd v (cond b es (e ∷ erase k es)) ≤ entriesEnd v (e ∷ es)
-    go true ih = entries-mono v (entryEnd v e) es (let l : v ≤ lensAt v = lens-after v in omega arith)
+    go true ih = reach-no-further v [] e es
     go false ih = ih
 
 pub reached-mono : (a b : ℕ) → a ≤ b → (a + 1015) / 1016 ≤ (b + 1015) / 1016

@@ -31,6 +31,7 @@ use Rattle.laws.proofs.TableRemove.{leftBy, left-fits}
 use Rattle.laws.proofs.TableCreate.{names-rising, table-found, meta-wanted}
 use Rattle.laws.proofs.Allowed.{OnTable, put-allowed, remove-allowed, create-allowed}
 use Rattle.laws.proofs.Ledgers.{LayoutOk, layout-ok, withTable, metaPages, created, metaAfter, create-drawn, Done, on-table, done-after, none-after, ledgerAfter}
+use Rattle.laws.proofs.Room.{room-enough}
 use Rattle.laws.proofs.Remembers.{Preserved, remembers}
 use Rattle.laws.proofs.Spots.{Around, among, tablesHeld, surrounds, held-at, held-gap, values, Spot, spot}
 use Rattle.laws.proofs.Turns.{Turns, and-then, turns-as}
@@ -183,7 +184,7 @@ module _ (img : List ℕ) (L : Layout) (op : Op) (room : ℕ) (w : WellFormed im
 
 -- what a done call writes leaves a well-formed image with the ledger's tables
 pub preserved : Preserved
-preserved img L op room w r h = go (planOf L op) refl h
+preserved img L op room w r h = go (planOf L op) refl (room-enough L (layout-ok img L w) op h)
   where
     go : (a : Option Plan) → planOf L op ≡ a → lacking L a ≡ false → Holds (ledgerAfter L op) (apply (planned L a) img)
     go none e l = record { layout = L; well = w; ledger = sym (none-after L op room r e) }

@@ -14,17 +14,17 @@ use Rattle.blockfile.specs.Bytes.{apply, Every}
 use Rattle.blockfile.specs.Layout.{Layout, freeCount}
 use Rattle.blockfile.specs.Order.{Within, there}
 use Rattle.blockfile.specs.WellFormed.{WellFormed}
-use Rattle.blockfile.specs.Refusals.{Op, check, get, put, remove, next, create, Reply, refusal, Ledger, ledgerOf, rows, lowest, refused, handed, doneReply}
-use Rattle.blockfile.specs.Answers.{Outcome, refuse, outcomeIf, outcomeOn, planOf, lacking, planned}
+use Rattle.blockfile.specs.Refusals.{Op, check, get, put, remove, next, create, Reply, refusal, Ledger, ledgerOf, rows, lowest, refused, mayLack, handed, doneReply}
+use Rattle.blockfile.specs.Answers.{Outcome, refuse, outcomeIf, outcomeOn, planOf, lacking, noRoom, planned}
 use Rattle.blockfile.specs.Calls.{lengthOk, cleared, answered, Called, bad-length, short-scratch, malformed, accepted, Keeps}
 use Rattle.blockfile.specs.Ledger.{Fed, stepOn, step, tablesAfter}
-use Rattle.blockfile.specs.History.{Event, fedTen, Holds, tenDue, enough, saidTo, Followed, Remembered, Demand3}
+use Rattle.blockfile.specs.History.{Event, Holds, tenDue, enough, saidTo, Followed, Remembered, Demand3}
 use Rattle.laws.proofs.Unique.{unique}
 
 -- the fact that demand 3 rests on
 abbrev pub Preserved : Type 0
 Preserved =
-    (img : List ℕ) (L : Layout) (op : Op) (room : ℕ) → WellFormed img L → refused (ledgerOf L) op room ≡ none → lacking L (planOf L op) ≡ false
+    (img : List ℕ) (L : Layout) (op : Op) (room : ℕ) → WellFormed img L → refused (ledgerOf L) op room ≡ none → noRoom L op ≡ false
     → Holds (record { pages = L .pages; tables = tablesAfter (ledgerOf L) op }) (apply (planned L (planOf L op)) img)
 
 -- ---- 10 is fed to the ledger exactly where the call answers it
@@ -54,7 +54,7 @@ refused-not-ten : (l : Ledger) (op : Op) (room : ℕ) → NotTen (refused l op r
 unfolding refused
 refused-not-ten l op room = lowest-not-ten (rows l op room) (rows-not-ten l op room)
 
--- the number of a done reply is 0; only put, remove and create can lack pages
+-- the number of a done reply is 0
 done-zero : (l : Ledger) (F : ℕ) (op : Op) → doneReply l F op .number ≡ 0
 done-zero l F check = refl
 done-zero l F (get n k) = refl
@@ -63,32 +63,24 @@ done-zero l F (remove n k) = refl
 done-zero l F (next n k) = refl
 done-zero l F (create n) = refl
 
-fed-false : (op : Op) → fedTen op false ≡ false
-fed-false check = refl
-fed-false (get n k) = refl
-fed-false (put n k v) = refl
-fed-false (remove n k) = refl
-fed-false (next n k) = refl
-fed-false (create n) = refl
+fed-false : (b : Bool) → (b && false) ≡ false
+fed-false true = refl
+fed-false false = refl
 
-fed-true : (L : Layout) (op : Op) → T (lacking L (planOf L op)) → fedTen op true ≡ true
-fed-true L check h = absurd h
-fed-true L (get n k) h = absurd h
-fed-true L (put n k v) h = refl
-fed-true L (remove n k) h = refl
-fed-true L (next n k) h = absurd h
-fed-true L (create n) h = refl
+fed-true : (a b : Bool) → (a && b) ≡ true → (a && true) ≡ true
+fed-true true b h = refl
+fed-true false b h = h
 
 -- ---- An outcome on the layout is the ledger's step
 
 abbrev fedBy : Op → (scratch room : ℕ) → Reply → Fed
-fedBy op s room r = record { op = op; scratchLength = s; room = room; ten = fedTen op (eqb (r .number) 10) }
+fedBy op s room r = record { op = op; scratchLength = s; room = room; ten = mayLack op && eqb (r .number) 10 }
 
 -- what one call has to show, the rows' answer being q
 record Agrees (L : Layout) (op : Op) (s room : ℕ) (q : Option Refusal) (o : Outcome) : Type 0 where
   reply : o .reply ≡ stepOn (ledgerOf L) (freeCount (L .free)) (fedBy op s room (o .reply)) q .reply
   bytes : o .bytes ≡ stepOn (ledgerOf L) (freeCount (L .free)) (fedBy op s room (o .reply)) q .bytes
-  ten : eqb (o .reply .number) 10 ≡ (not (there q) && lacking L (planOf L op))
+  ten : eqb (o .reply .number) 10 ≡ (not (there q) && noRoom L op)
   holds : (img : List ℕ) → WellFormed img L → Holds (stepOn (ledgerOf L) (freeCount (L .free)) (fedBy op s room (o .reply)) q .ledger) (apply (o .writes) img)
 
 -- one call on a well-formed image, as the ledger has it
@@ -129,17 +121,17 @@ module _ (after : Preserved) where
   agrees : (L : Layout) (op : Op) (s room : ℕ) (q : Option Refusal) → refused (ledgerOf L) op room ≡ q → NotTen q → Agrees L op s room q (outcomeIf L op q)
   unfolding ledgerOf unchanged
   agrees L op s room (some f) e h = record { reply = refl; bytes = refl; ten = h; holds = λ img w. unchanged L img w }
-  agrees L op s room none e h = go (lacking L (planOf L op)) refl
+  agrees L op s room none e h = go (noRoom L op) refl
     where
-      go : (b : Bool) → lacking L (planOf L op) ≡ b
+      go : (b : Bool) → noRoom L op ≡ b
           → Agrees L op s room none
           (cond b (refuse NoRoom) (record { reply = doneReply (ledgerOf L) (freeCount (L .free)) op; bytes = handed (ledgerOf L) op; writes = planned L (planOf L op) }))
       go true k =
-          let f : fedTen op true ≡ true = fed-true L op (subst T (sym k) tt) in
+          let f : (mayLack op && true) ≡ true = fed-true (mayLack op) (lacking L (planOf L op)) k in
           record { reply = rw f; bytes = rw f; ten = sym k; holds = λ img w. rw f (unchanged L img w) }
       go false k =
           let z : eqb (doneReply (ledgerOf L) (freeCount (L .free)) op .number) 10 ≡ false = ap (λ (n : ℕ). eqb n 10) (done-zero (ledgerOf L) (freeCount (L .free)) op) in
-          let d : fedTen op (eqb (doneReply (ledgerOf L) (freeCount (L .free)) op .number) 10) ≡ false = ap (fedTen op) z ∙ fed-false op in
+          let d : (mayLack op && eqb (doneReply (ledgerOf L) (freeCount (L .free)) op .number) 10) ≡ false = ap (λ (b : Bool). mayLack op && b) z ∙ fed-false (mayLack op) in
           record { reply = rw d; bytes = rw d; ten = z ∙ sym k; holds = λ img w. rw d (after img L op room w e k) }
 
   module _ (img : List ℕ) (L : Layout) (w : WellFormed img L) (op : Op) where

@@ -7,13 +7,13 @@ use mathlib.Core.List.{List, [], _∷_, _++_, map}
 use mathlib.Core.Option.{none, some}
 use lib.ListN.{length}
 use Rattle.blockfile.specs.Bytes.{pg, apply, gather}
-use Rattle.blockfile.specs.Layout.{Table, Layout, columns, spansOf, towersOf}
+use Rattle.blockfile.specs.Layout.{Entry, entriesEnd, Table, Layout, columns, spansOf, towersOf}
 use Rattle.blockfile.specs.Order.{same, find}
 use Rattle.blockfile.specs.WellFormed.{count, WellFormed, Accepted, Rejected}
-use Rattle.blockfile.specs.Plan.{Plan, drawnBy, lacks, layoutAfter, writesOf}
+use Rattle.blockfile.specs.Plan.{Plan, drawnBy, layoutAfter, writesOf}
 use Rattle.blockfile.specs.Put.{spanAt}
 use Rattle.blockfile.specs.Refusals.{Op, put, remove, Reply, ledgerOf, mapOf, refused}
-use Rattle.blockfile.specs.Answers.{planOf, lacking, outcomeOn}
+use Rattle.blockfile.specs.Answers.{planOf, lacking, noRoom, outcomeOn}
 use Rattle.blockfile.specs.Calls.{Keeps}
 use Rattle.laws.specs.Lists.{Apart, Agree}
 use Rattle.laws.specs.FreeList.{freePages}
@@ -71,12 +71,11 @@ TablesStay =
 
 -- ---- Demand 2: which bytes stay of the pages that a done call writes in part
 
--- on this layout the call is not refused, and carries out this plan, for which there are pages enough; the writes of its outcome
--- are then the plan's
+-- on this layout the call is not refused, and carries out this plan; the writes of its outcome are then the plan's
 pub record Does (L : Layout) (op : Op) (room : ℕ) (p : Plan) : Type 0 where
   pub allowed : refused (ledgerOf L) op room ≡ none
+  pub enough : noRoom L op ≡ false
   pub planned : planOf L op ≡ some p
-  pub enough : lacks L p ≡ false
 
 -- v bytes of page n, from offset a on, are as they were before the plan's writes
 abbrev pub SameBytes : (img : List ℕ) (L : Layout) → Plan → (n a v : ℕ) → Type 0
@@ -120,14 +119,26 @@ WellAfter =
     (img : List ℕ) (L : Layout) (op : Op) (room : ℕ) (p : Plan) → WellFormed img L → Does L op room p
     → WellFormed (apply (writesOf L p) img) (layoutAfter L p)
 
--- ---- Demand 3: room. 10 is answered only where `lacking` is true
+-- ---- Demand 3: room. 10 is answered only where `noRoom` is true
 
--- a put of a record no longer than the one under its key lacks no pages
+-- a put of a record no longer than the one under its key has room
 unfoldable pub PutHasRoom : Type 0
 PutHasRoom =
     (img : List ℕ) (L : Layout) → WellFormed img L → (n k v old : List ℕ) → find k (mapOf (ledgerOf L) n) ≡ some old → length v ≤ length old
-    → lacking L (planOf L (put n k v)) ≡ false
+    → noRoom L (put n k v) ≡ false
 
--- nor does a remove
+-- ---- Request T-07: removing always has room, so that row 10 has no case for it
+
+-- taking an entry out never makes the others reach further, page breaks included: the stream of a span ends no later without it,
+-- wherever the stream begins
+unfoldable pub ReachNoFurther : Type 0
+ReachNoFurther = (v : ℕ) (es : List Entry) (e : Entry) (fs : List Entry) → entriesEnd v (es ++ fs) ≤ entriesEnd v (es ++ (e ∷ fs))
+
+-- so the pages that a remove wants are never more than the old continuation pages of its span
+unfoldable pub RemoveWants : Type 0
+RemoveWants =
+    (img : List ℕ) (L : Layout) → WellFormed img L → (n k : List ℕ) (p : Plan) → planOf L (remove n k) ≡ some p → p .wanted ≤ length (p .old)
+
+-- and none lacks pages, however few are free
 unfoldable pub RemoveHasRoom : Type 0
 RemoveHasRoom = (img : List ℕ) (L : Layout) → WellFormed img L → (n k : List ℕ) → lacking L (planOf L (remove n k)) ≡ false

@@ -1,4 +1,5 @@
 pub mod Giving
 pub mod Owning
 pub mod Unlinkings
+pub mod Leavings
 pub mod Removals

@@ -3,42 +3,35 @@ use Prim.Native.Nat.{ℕ, zero, suc, _+_, _≤_, _<_}
 use native.Mathlib.Omega.{arith}
 use mathlib.Core.Path.{_≡_, refl, ap, sym, _∙_, subst}
 use mathlib.Core.Logic.{_⊎_, inl, inr}
-use mathlib.Core.Bool.{Bool, true, false}
+use mathlib.Core.Bool.{true, false, true≢false}
 use mathlib.Core.List.{List, [], _∷_}
 use mathlib.Core.Option.{none, some}
 use lib.ListN.{length}
-use borrow.Author.Tests.{le-ltb}
-use Rattle.blockfile.specs.Bytes.{apply}
-use Rattle.blockfile.specs.Layout.{Entry, Table, Layout, columns, entriesOf, freeCount}
+use Rattle.blockfile.specs.Bytes.{Write, apply}
+use Rattle.blockfile.specs.Layout.{Entry, Table, Layout, columns, entriesOf}
 use Rattle.blockfile.specs.Order.{keyRule, find, erase}
-use Rattle.blockfile.specs.Plan.{lacks, writesOf}
-use Rattle.blockfile.specs.Put.{target, spanAt, rewritePlan}
+use Rattle.blockfile.specs.Plan.{writesOf}
+use Rattle.blockfile.specs.Put.{spanAt, parts, wantedBy, rewritePlan}
 use Rattle.blockfile.specs.Remove.{unlinkPlan, leavePlan, removePlan}
 use Rattle.laws.proofs.Orders.{keys-ordered}
 use Rattle.laws.proofs.Targets.{target-is, find-at}
 use Rattle.laws.proofs.TableRemove.{left-fits}
-use Rattle.laws.proofs.Fitting.{keys-short}
+use Rattle.laws.proofs.Room.{left-wants}
 use Rattle.search.specs.Tables.{TargetIn}
-use Rattle.stage.specs.declared.change.Change.{Change}
 use Rattle.stage.specs.declared.change.Spot.{Spot}
-use Rattle.stage.specs.Changes.{Fits, Spotted, SpottedOn}
+use Rattle.stage.specs.Changes.{spliced, Fits, Spotted, SpottedOn}
 use Rattle.stage.proofs.Splices.{length-spliced}
 use Rattle.edit.specs.declared.fields.Links.{Links}
 use Rattle.edit.specs.Fields.{LinkedOn, LinksOf, LinksRead}
 use Rattle.edit.specs.Standing.{hereAt}
 use Rattle.edit.specs.Stages.{coming}
-use Rattle.edit.specs.Rewrites.{changed, RewriteOf, RewriteReady, Rewritten}
 use Rattle.edit.specs.Puts.{TableAt}
 use Rattle.edit.proofs.Stands.{table-standing, span-borne}
-use Rattle.edit.proofs.Puttings.{reading, place, ok, inside, spotted, rewrite-done, rewrite-refused}
-use Rattle.remove.specs.declared.remove.Removed.the-variants.{Done, NoKey, NoRoom}
+use Rattle.edit.proofs.Puttings.{reading, place, ok, inside, spotted, plan-writes}
 use Rattle.remove.specs.Unlinks.{UnlinkOf, UnlinkReady, Unlinked}
+use Rattle.remove.specs.Leaves.{takenOut, others, LeaveOf, LeaveReady, Left}
 use Rattle.remove.specs.Removes.{RemoveReady, RemoveDone}
 use Rattle.remove.proofs.Unlinkings.{prev-is}
-
--- the change that remove makes at a spot
-abbrev pub removeAt : Spot → Change
-removeAt s = record { index = s .index; drops = s .there; adds = 0 }
 
 no-entries : (es : List Entry) → length es ≡ 0 → es ≡ []
 no-entries [] e = refl
@@ -51,7 +44,7 @@ leave-rewrites L name t (suc i) [] (inl e) = absurd (omega arith)
 leave-rewrites L name t (suc i) [] (inr n) = absurd (n refl)
 leave-rewrites L name t (suc i) (x ∷ es) h = refl
 
-module _ {img : List ℕ} {root free : ℕ} {L : Layout} {name : List ℕ} {t : Table} (a : TableAt img root free L name t) (k : List ℕ) (page : ℕ) (f : TargetIn img root k page) where
+module _ {img : List ℕ} {root : ℕ} {L : Layout} {name : List ℕ} {t : Table} (a : TableAt img root L name t) (k : List ℕ) (page : ℕ) (f : TargetIn img root k page) where
   abbrev i : ℕ
   i = place a k
 
@@ -88,24 +81,27 @@ module _ {img : List ℕ} {root free : ℕ} {L : Layout} {name : List ℕ} {t : 
       found : (v : List ℕ) × (find k (entriesOf t) ≡ some v)
       found = let w = sp .found is-one in (w .0, found-at ∙ w .1)
 
-      fits : Fits (removeAt s) es
-      fits = record { drops = sp .bit; adds = omega arith; inside = sp .inside; few = sp .few }
+      fits : Fits (takenOut (s .index)) es
+      fits = record { drops = omega arith; adds = omega arith; inside = subst (λ (n : ℕ). s .index + n ≤ length es) is-one (sp .inside); few = sp .few }
 
-      -- the entries after the change are those without the key, one fewer
-      erased : (v : List ℕ) → changed t i (removeAt s) k v ≡ erase k es
-      erased v = sym (sp .remove (coming k v))
+      -- the others are the entries without the key, one fewer
+      erased : others t i (s .index) ≡ erase k es
+      erased = ap (λ (n : ℕ). spliced (record { index = s .index; drops = n; adds = 0 }) (coming [] []) es) (sym is-one) ∙ sym (sp .remove (coming [] []))
 
       one-fewer : length (erase k es) + 1 ≡ length es
-      one-fewer = omega (arith, ap length (erased []), length-spliced (removeAt s) (coming k []) es fits, is-one)
+      one-fewer = omega (arith, ap length erased, length-spliced (takenOut (s .index)) (coming [] []) es fits)
 
-      pub rewrite-of : (v : List ℕ) → RewriteOf img root page free (removeAt s) k v (keyRule name) t (L .free) i
-      rewrite-of v =
+      -- never a split, and no pages but the span's own
+      pub leave-of : LeaveOf img root page (s .index) (keyRule name) t (L .free) i
+      leave-of =
           record {
-            standing = table-standing img L (a .well) name t (a .found);
-            at = sym (a .at);
-            change = record { inside = inside a k; at = f .is (reading a k); fits = fits };
-            pages = sym (a .pages);
-            few = subst (λ (l : List Entry). length l ≤ t .spanSize + 1) (sym (erased v)) (omega (arith, left-fits (keyRule name) (keys-ordered name) t (ok a k) k));
+            rewrite = record {
+              standing = table-standing img L (a .well) name t (a .found);
+              at = sym (a .at);
+              change = record { inside = inside a k; at = f .is (reading a k); fits = fits };
+              few = subst (λ (l : List Entry). length l ≤ t .spanSize + 1) (sym erased) (omega (arith, left-fits (keyRule name) (keys-ordered name) t (ok a k) k));
+            };
+            wants = subst (λ (l : List Entry). wantedBy (parts t l) ≤ length (spanAt t i .conts)) (sym erased) (left-wants name t (ok a k) k);
           }
 
       module _ (x : Links) (y : LinksRead img page x) where
@@ -143,11 +139,10 @@ module _ {img : List ℕ} {root free : ℕ} {L : Layout} {name : List ℕ} {t : 
           unfolding removePlan
           gone-plan = λ j. leavePlan L name t (later .1 j) (none-left j)
 
-          gone-done : {out : List ℕ} → Unlinked img root page x out → (lacks L (removePlan L name t k) ≡ false) × (out ≡ apply (writesOf L (removePlan L name t k)) img)
-          unfolding lacks writesOf unlinkPlan
+          gone-done : {out : List ℕ} → Unlinked img root page x out → out ≡ apply (writesOf L (removePlan L name t k)) img
+          unfolding writesOf unlinkPlan
           gone-done {out} u =
-              subst (λ p. (lacks L p ≡ false) × (out ≡ apply (writesOf L p) img)) (sym gone-plan)
-              (le-ltb (length (spanAt t (suc (later .0)) .conts) + freeCount (L .free)) 0 (omega arith), u .image (keyRule name) t (L .free) (later .0) unlink-of)
+              subst (λ p. out ≡ apply (writesOf L p) img) (sym gone-plan) (u .image (keyRule name) t (L .free) (later .0) unlink-of)
 
         -- ---- The span is rewritten
 
@@ -168,50 +163,36 @@ module _ {img : List ℕ} {root free : ℕ} {L : Layout} {name : List ℕ} {t : 
           unfolding removePlan
           left-plan = leave-rewrites L name t i (erase k es) stays
 
-          module _ {v : List ℕ} {b : Bool} {out : List ℕ} (w : Rewritten img root page free (removeAt s) k v b out) where
-            left-done : b ≡ true → (lacks L (removePlan L name t k) ≡ false) × (out ≡ apply (writesOf L (removePlan L name t k)) img)
-            left-done e = subst (λ p. (lacks L p ≡ false) × (out ≡ apply (writesOf L p) img)) (sym left-plan) (rewrite-done L name (rewrite-of v) (erased v) w e)
-
-            left-refused : b ≡ false → (lacks L (removePlan L name t k) ≡ true) × (out ≡ img)
-            left-refused e = subst (λ p. (lacks L p ≡ true) × (out ≡ img)) (sym left-plan) (rewrite-refused L name (rewrite-of v) (erased v) w e)
+          left-done : {out : List ℕ} → Left img root page (s .index) out → out ≡ apply (writesOf L (removePlan L name t k)) img
+          left-done w =
+              w .image (keyRule name) t (L .free) i leave-of
+              ∙ ap (λ (ws : List Write). apply ws img) (plan-writes L name t i erased ∙ ap (writesOf L) (sym left-plan))
 
 -- ---- What the calls ask for
 
-module _ {img scratch : List ℕ} {root free : ℕ} {k : List ℕ} (h : RemoveReady img scratch root free k) (page : ℕ) (f : TargetIn img root k page)
+module _ {img scratch : List ℕ} {root : ℕ} {k : List ℕ} (h : RemoveReady img scratch root k) (page : ℕ) (f : TargetIn img root k page)
     (s : Spot) (g : SpottedOn img page k s) (there : s .there ≡ 0 → ⊥) where
   pub unlink-ready : (x : Links) → LinksRead img page x → (x .prev ≡ 0 → ⊥) × (x .size ≡ 1) → UnlinkReady img root page x
   unlink-ready x y n =
       record { rule = keyRule (h .name); table = h .table; blocks = h .layout .free; place = _; is = unlink-of (h .is) k page f s g there x y n }
 
-  pub rewrite-ready : (v : List ℕ) → length v ≤ 65535 → RewriteReady img scratch root page free (removeAt s) k v
-  rewrite-ready v l =
-      record {
-        rule = keyRule (h .name);
-        table = h .table;
-        blocks = h .layout .free;
-        place = target (keyRule (h .name)) k (h .table);
-        is = rewrite-of (h .is) k page f s g there v;
-        short = keys-short (h .name) k (h .allowed);
-        brief = l;
-        lent = h .lent;
-      }
+  pub leave-ready : LeaveReady img scratch root page (s .index)
+  leave-ready =
+      record { rule = keyRule (h .name); table = h .table; blocks = h .layout .free; place = _; is = leave-of (h .is) k page f s g there; lent = h .lent }
 
 -- ---- The answers
 
-module _ {img : List ℕ} {root free : ℕ} {k : List ℕ} (page : ℕ) (f : TargetIn img root k page) (s : Spot) (g : SpottedOn img page k s) where
-  pub not-there : s .there ≡ 0 → RemoveDone img root free k NoKey img
-  not-there z = record { is = λ L name t a. (missing a k page f s g z, refl) }
+module _ {img : List ℕ} {root : ℕ} {k : List ℕ} (page : ℕ) (f : TargetIn img root k page) (s : Spot) (g : SpottedOn img page k s) where
+  pub not-there : s .there ≡ 0 → RemoveDone img root k false img
+  not-there z = record { done = λ e. absurd (true≢false (sym e)); missing = λ e L name t a. (missing a k page f s g z, refl) }
 
   module _ (there : s .there ≡ 0 → ⊥) (x : Links) (y : LinksRead img page x) where
-    pub went : (x .prev ≡ 0 → ⊥) × (x .size ≡ 1) → {out : List ℕ} → Unlinked img root page x out → RemoveDone img root free k Done out
-    went n u =
-        record {
-          is = λ L name t a. (let d = gone-done a k page f s g there x y n u in (found a k page f s g there, d .0, d .1));
-        }
+    was-there : {out : List ℕ} → ((L : Layout) (name : List ℕ) (t : Table) → TableAt img root L name t → out ≡ apply (writesOf L (removePlan L name t k)) img)
+        → RemoveDone img root k true out
+    was-there h = record { done = λ e L name t a. (found a k page f s g there, h L name t a); missing = λ e. absurd (true≢false e) }
 
-    module _ (n : (x .prev ≡ 0) ⊎ (x .size ≡ 1 → ⊥)) {v : List ℕ} {b : Bool} {out : List ℕ} (w : Rewritten img root page free (removeAt s) k v b out) where
-      pub stayed : b ≡ true → RemoveDone img root free k Done out
-      stayed e = record { is = λ L name t a. (let d = left-done a k page f s g there x y n w e in (found a k page f s g there, d .0, d .1)) }
+    pub went : (x .prev ≡ 0 → ⊥) × (x .size ≡ 1) → {out : List ℕ} → Unlinked img root page x out → RemoveDone img root k true out
+    went n u = was-there (λ L name t a. gone-done a k page f s g there x y n u)
 
-      pub full : b ≡ false → RemoveDone img root free k NoRoom out
-      full e = record { is = λ L name t a. (let d = left-refused a k page f s g there x y n w e in (found a k page f s g there, d .0, d .1)) }
+    pub stayed : (x .prev ≡ 0) ⊎ (x .size ≡ 1 → ⊥) → {out : List ℕ} → Left img root page (s .index) out → RemoveDone img root k true out
+    stayed n w = was-there (λ L name t a. left-done a k page f s g there x y n w)

@@ -1,5 +1,6 @@
 // A key removed from a table of an accepted image: its span rewritten, or unlinked with its tower and given back.
 pub mod gone;
+pub mod leave;
 pub mod remove;
 pub mod tower;
 pub mod unlink;

@@ -9,7 +9,7 @@ use Rattle.blockfile.specs.declared.Got.{Got}
 use Rattle.blockfile.specs.declared.Got.the-variants.{Found, Refused as NotGot}
 use Rattle.blockfile.specs.Layout.{Layout, freeCount}
 use Rattle.blockfile.specs.Order.{keyRule, same, find, above}
-use Rattle.blockfile.specs.Refusals.{Op, Ledger, plain, ledgerOf, sought, rows, lowest, refused, handed, doneReply}
+use Rattle.blockfile.specs.Refusals.{Op, Ledger, plain, ledgerOf, sought, rows, lowest, refused, mayLack, handed, doneReply}
 use Rattle.blockfile.specs.Answers.{planOf, refuse, outcomeIf, outcomeOn}
 use Rattle.blockfile.specs.Calls.{gotReply, accepted, Keeps}
 use Rattle.search.specs.declared.span.Sought.{Sought}
@@ -31,6 +31,7 @@ pub record ReadCall (op : Op) (name : List ℕ) (legal : Bool) : Type 0 where
   pub are : (l : Ledger) (room : ℕ) → lowest (rows l op room) ≡ lowest (tableRows l name legal true ++ answerRows (sought l op) room)
   pub gives : (l : Ledger) → handed l op ≡ Option·getD (sought l op) []
   pub replies : (l : Ledger) (free : ℕ) → doneReply l free op ≡ plain 0 (length (Option·getD (sought l op) []))
+  pub has-room : mayLack op ≡ false
   pub still : (L : Layout) → planOf L op ≡ none
 
 not-or : (a b : Bool) → not (a || b) ≡ (not a && not b)
@@ -38,12 +39,13 @@ not-or true b = refl
 not-or false b = refl
 
 ask-as : (q : Question) (name key : List ℕ) (legal : Bool) → legal ≡ askable q name key → ReadCall (asking q name key) name legal
-ask-as Value name key legal e = record { are = λ l room. rw e; gives = λ l. refl; replies = λ l free. refl; still = λ L. refl }
+ask-as Value name key legal e = record { are = λ l room. rw e; gives = λ l. refl; replies = λ l free. refl; has-room = refl; still = λ L. refl }
 ask-as Above name key legal e =
     record {
       are = λ l room. rw (e, not-or (same key []) (keyRule name .allowed key));
       gives = λ l. refl;
       replies = λ l free. refl;
+      has-room = refl;
       still = λ L. refl;
     }
 
@@ -92,7 +94,7 @@ module _ {op : Op} {name : List ℕ} {legal : Bool} (reads : ReadCall op name le
         record {
           outcome = record { reply = plain 0 n; bytes = Option·getD (sought l op) []; writes = [] };
           called = accepted (h .sized) (h .enough) (h .layout) (h .well)
-              (rw (answer-left (length b), a .0, reads .still (h .layout), reads .replies l (freeCount (h .layout .free)), reads .gives l, a .1))
+              (rw (answer-left (length b), a .0, reads .has-room, reads .still (h .layout), reads .replies l (freeCount (h .layout .free)), reads .gives l, a .1))
               (h .clear);
           result = refl;
           image = refl;

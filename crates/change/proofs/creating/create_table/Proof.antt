@@ -11,7 +11,7 @@ returns : tie.Need-returns
 returns c = name-refused (c .before .before .before .before .before .pre) _ (sym (c .before .is-name .ensures) ∙ not-true _ (c .if1 .taken))
 
 find-table-requires : tie.Need-find-table-requires
-find-table-requires c κs = let p = c .before .before .before .before .before .before .pre in (p .layout, p .well)
+find-table-requires c κs = let p = c .before .before .before .before .before .before .pre in (p .lent .layout, p .lent .well)
 
 -- the name is allowed
 named : (c : tie.Else1) → nameRule .allowed (c .before .before .before .before .before .args .name .now) ≡ true

@@ -14,7 +14,7 @@ judged : (c : tie.After-named-table)
 judged c = record { key-is = c .before .before .is-key .ensures _; value-is = c .before .is-value .ensures }
 
 named-table-requires : tie.Need-named-table-requires
-named-table-requires c κs = let p = c .before .before .before .before .before .before .before .before .pre in (p .layout, p .well)
+named-table-requires c κs = let p = c .before .before .before .before .before .before .before .before .pre in (p .lent .layout, p .lent .well)
 
 put-requires : tie.Need-put-requires
 put-requires c κs =

@@ -1,5 +1,6 @@
 use borrow.Author.Needs.{needs}
-use Rattle.change.proofs.Removes.{Judged, remove-refused, remove-ready, remove-done, remove-missing, remove-full}
+use borrow.Author.Tests.{not-true, not-false}
+use Rattle.change.proofs.Removes.{Judged, remove-refused, remove-ready, remove-done, remove-missing}
 use Rattle.change.proofs.removing.remove_entry.Statement.{statement}
 use Rattle.change.proofs.removing.remove_entry.Tie as tie
 
@@ -10,13 +11,6 @@ start c = c .before .before .before .before .before .before .before
 judged : (c : tie.After-named-table) → let a = start c .args in Judged (a .name .now) (a .key .now) (c .before .is-key .result)
 judged c = record { key-is = c .before .is-key .ensures _ }
 
--- the table was found
-abbrev page : tie.After-remove → tie.After-page
-page c = c .before .before .before .before
-
-named-table-requires : tie.Need-named-table-requires
-named-table-requires c κs = let p = c .before .before .before .before .before .before .pre in (p .layout, p .well)
-
 remove-requires : tie.Need-remove-requires
 remove-requires c κs =
     let p = c .before .before .before in
@@ -25,50 +19,37 @@ remove-requires c κs =
 
 returns : tie.Need-returns
 returns c =
-    let t = c .before .before .before in
-    remove-refused (judged t) (start t .pre) (t .named-table .ensures) _ (c .before .why .given .1)
+    let w = c .before .before .before .before .before in
+    let p = w .before .before .before .before in
+    let t = p .before .before in
+    remove-missing (judged t) (start t .pre) (t .named-table .ensures) _ (p .page .given .1) _ _ (w .remove .ensures) (not-true _ (c .if1 .taken))
 
 returns-2 : tie.Need-returns-2
 returns-2 c =
-    let w = c .before .before .before .before .before .before in
-    let p = page w in
-    let t = p .before .before in
-    remove-done (judged t) (start t .pre) (t .named-table .ensures) _ (p .page .given .1) _ _ (w .remove .ensures) (c .enum-told .given .1)
+    let t = c .before .before .before in
+    remove-refused (judged t) (start t .pre) (t .named-table .ensures) _ (c .before .why .given .1)
 
 returns-3 : tie.Need-returns-3
 returns-3 c =
-    let w = c .before .before .before .before .before .before in
-    let p = page w in
+    let w = c .before .before .before .before .before in
+    let p = w .before .before .before .before in
     let t = p .before .before in
-    remove-missing (judged t) (start t .pre) (t .named-table .ensures) _ (p .page .given .1) _ _ (w .remove .ensures) (c .enum-told2 .given .1)
-
-returns-4 : tie.Need-returns-4
-returns-4 c =
-    let w = c .before .before .before .before .before .before in
-    let p = page w in
-    let t = p .before .before in
-    remove-full (judged t) (start t .pre) (t .named-table .ensures) _ (p .page .given .1) _ _ (w .remove .ensures) (c .enum-told3 .given .1)
+    remove-done (judged t) (start t .pre) (t .named-table .ensures) _ (p .page .given .1) _ _ (w .remove .ensures) (not-false _ (c .if1 .left))
 
 pub remove-entry-spec : {M : Type 1} → statement M
 remove-entry-spec =
     tie.close
     (tie.spec
     (λ c κs. search needs)
-    named-table-requires
+    (λ c κs. search needs)
     (λ c. search needs)
     (λ c. search needs)
     remove-requires
     (λ c. search needs)
     (λ c. search needs)
-    (λ c. search needs)
-    (λ c. search needs)
     returns
-    (λ c. search needs)
     (λ c. search needs)
     returns-2
     (λ c. search needs)
     (λ c. search needs)
-    returns-3
-    (λ c. search needs)
-    (λ c. search needs)
-    returns-4)
+    returns-3)

@@ -1,12 +1,11 @@
 use borrow.Author.Needs.{needs}
 use native.Mathlib.Omega.{arith}
-use mathlib.Core.Path.{refl}
-use Rattle.edit.proofs.Rewritings.{all-few, plan-ready, conts-ready, counted, conts-near, span-near, tower-near, whole-pages, no-room, carry-ready, rewritten}
+use Rattle.edit.proofs.Rewritings.{all-few, plan-ready, conts-ready, counted, conts-near, span-near, tower-near, no-room, carry-ready, rewritten}
 use Rattle.edit.proofs.rewrite.rewrite.Statement.{statement}
 use Rattle.edit.proofs.rewrite.rewrite.Tie as tie
 
 make-plan-requires : tie.Need-make-plan-requires
-make-plan-requires c κs = plan-ready (c .before .before .before .before .before .pre)
+make-plan-requires c κs = let h = c .before .before .before .before .before .pre in plan-ready (h .is) (omega (arith, h .short, h .brief))
 
 count-conts-requires : tie.Need-count-conts-requires
 count-conts-requires c κs =
@@ -17,7 +16,7 @@ add-if1 : tie.Need-add-if1
 add-if1 c =
     let p = c .before .before in
     let h = p .before .before .before .before .before .before .pre in
-    omega (arith, counted (h .is) (p .make-plan .ensures) _ (c .count-conts .ensures), h .is .pages, all-few (h .is), h .is .standing .readable .small)
+    omega (arith, counted (h .is) (p .make-plan .ensures) _ (c .count-conts .ensures), h .pages, all-few (h .is), h .is .standing .readable .small)
 
 add-if1-2 : tie.Need-add-if1-2
 add-if1-2 c =
@@ -42,7 +41,7 @@ carry-out-requires c κs =
     let n = t .before .before .before in
     let p = n .before .before in
     let h = p .before .before .before .before .before .before .pre in
-    carry-ready (p .make-plan .ensures) _ (n .count-conts .ensures) (t .if1 .left) (whole-pages h refl (p .make-plan .ensures)) _ h
+    carry-ready (p .make-plan .ensures) _ (n .count-conts .ensures) (t .if1 .left) h
 
 returns-2 : tie.Need-returns-2
 returns-2 c =
@@ -50,8 +49,7 @@ returns-2 c =
     let t = d .before .before .before in
     let n = t .before .before .before in
     let p = n .before .before in
-    let h = p .before .before .before .before .before .before .pre in
-    rewritten (p .make-plan .ensures) _ (n .count-conts .ensures) (t .if1 .left) (whole-pages h refl (p .make-plan .ensures)) _ (d .carry-out .ensures)
+    rewritten (p .make-plan .ensures) _ (n .count-conts .ensures) (t .if1 .left) (d .carry-out .ensures)
 
 pub rewrite-spec : {M : Type 1} → statement M
 rewrite-spec =

@@ -1,9 +1,8 @@
--- `remove::remove::remove` meets its contract: no such key, the span goes, or it is rewritten.
+-- `remove::remove::remove` meets its contract: no such key, the span goes, or it is left with its other entries.
 use denote.Ref.{now}
-use native.Mathlib.Omega.{arith}
 use borrow.Author.Needs.{needs}
 use Rattle.edit.proofs.Puttings.{reading, target-span}
-use Rattle.remove.proofs.Removals.{linked-on, unlink-ready, rewrite-ready, not-there, went, stayed, full}
+use Rattle.remove.proofs.Removals.{linked-on, unlink-ready, leave-ready, not-there, went, stayed}
 use Rattle.remove.proofs.remove.remove.Statement.{statement}
 use Rattle.remove.proofs.remove.remove.Tie as tie
 
@@ -36,6 +35,13 @@ unlink-requires c κs =
     let f = g .before .before in
     unlink-ready (start f .pre) _ (f .find-span .ensures) _ (g .find-spot .ensures) (e .if1 .left) _ (o .before .read-links .ensures) (o .goes .ensures .yes (c .before .if2 .taken))
 
+leave-requires : tie.Need-leave-requires
+leave-requires c κs =
+    let e = c .before .before .before .before .before .before in
+    let g = spot e in
+    let f = g .before .before in
+    leave-ready (start f .pre) _ (f .find-span .ensures) _ (g .find-spot .ensures) (e .if1 .left)
+
 returns-2 : tie.Need-returns-2
 returns-2 c =
     let u = c .before .before in
@@ -45,30 +51,14 @@ returns-2 c =
     let g = spot e in
     went _ (g .before .before .find-span .ensures) _ (g .find-spot .ensures) (e .if1 .left) _ (o .before .read-links .ensures) (o .goes .ensures .yes (t .if2 .taken)) (u .unlink .ensures)
 
-rewrite-requires : tie.Need-rewrite-requires
-rewrite-requires c κs =
-    let e = c .before .before .before .before .before .before .before in
-    let g = spot e in
-    let f = g .before .before in
-    rewrite-ready (start f .pre) _ (f .find-span .ensures) _ (g .find-spot .ensures) (e .if1 .left) _ (omega arith)
-
 returns-3 : tie.Need-returns-3
 returns-3 c =
-    let w = c .before .before .before .before .before in
-    let t = w .before .before .before .before in
+    let w = c .before .before .before .before in
+    let t = w .before .before .before in
     let o = t .before in
     let e = o .before .before .before in
     let g = spot e in
-    stayed _ (g .before .before .find-span .ensures) _ (g .find-spot .ensures) (e .if1 .left) _ (o .before .read-links .ensures) (o .goes .ensures .other (t .if2 .left)) (w .rewrite .ensures) (c .if3 .taken)
-
-returns-4 : tie.Need-returns-4
-returns-4 c =
-    let w = c .before .before .before .before .before in
-    let t = w .before .before .before .before in
-    let o = t .before in
-    let e = o .before .before .before in
-    let g = spot e in
-    full _ (g .before .before .find-span .ensures) _ (g .find-spot .ensures) (e .if1 .left) _ (o .before .read-links .ensures) (o .goes .ensures .other (t .if2 .left)) (w .rewrite .ensures) (c .if3 .left)
+    stayed _ (g .before .before .find-span .ensures) _ (g .find-spot .ensures) (e .if1 .left) _ (o .before .read-links .ensures) (o .goes .ensures .other (t .if2 .left)) (w .leave .ensures)
 
 pub remove-spec : {M : Type 1} → statement M
 remove-spec =
@@ -81,13 +71,9 @@ remove-spec =
     read-links-requires
     (λ c κs. search needs)
     unlink-requires
+    leave-requires
     (λ c. search needs)
     returns-2
     (λ c. search needs)
-    rewrite-requires
     (λ c. search needs)
-    (λ c. search needs)
-    returns-3
-    (λ c. search needs)
-    (λ c. search needs)
-    returns-4)
+    returns-3)

@@ -1,0 +1,26 @@
+-- The ways through `leave`: the span's own pages are enough.
+use Prim.Native.Nat.{ℕ, _/_}
+use native.Mathlib.Omega.{arith}
+use mathlib.Core.List.{List, []}
+use lib.ListN.{length}
+use Rattle.blockfile.specs.Layout.{Table, Block}
+use Rattle.blockfile.specs.Order.{KeyRule}
+use Rattle.edit.specs.declared.plan.Plan.{Plan}
+use Rattle.edit.specs.Makes.{PlanReady, PlanFor}
+use Rattle.edit.specs.Rewrites.{Carries, CarryReady, Carried}
+use Rattle.edit.proofs.Rewritings.{plan-ready, carries, written}
+use Rattle.remove.specs.Leaves.{takenOut, LeaveOf, LeaveReady, Left}
+
+pub planned : {img scratch : List ℕ} {root page index : ℕ} → LeaveReady img scratch root page index → PlanReady img root page (takenOut index) 0
+planned h = plan-ready (h .is .rewrite) (omega arith)
+
+module _ {img : List ℕ} {root page index : ℕ} {x : Plan} (q : PlanFor img root page (takenOut index) 0 0 (length img / 1024) x) where
+  carried-for : {r : KeyRule} {t : Table} {bs : List Block} {i : ℕ} → LeaveOf img root page index r t bs i → Carries img x (takenOut index) [] [] r t bs i
+  carried-for o = carries (o .rewrite) q (omega (arith, o .wants))
+
+  pub carry-ready : {scratch : List ℕ} → LeaveReady img scratch root page index → CarryReady img scratch x (takenOut index) [] []
+  carry-ready h =
+      record { rule = h .rule; table = h .table; blocks = h .blocks; place = h .place; carries = carried-for (h .is); lent = h .lent }
+
+  pub left : {out : List ℕ} → Carried img x (takenOut index) [] [] out → Left img root page index out
+  left d = record { image = λ r t bs i o. written (o .rewrite) q (omega (arith, o .wants)) d }
