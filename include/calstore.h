@@ -89,8 +89,9 @@ struct calstore_answer calstore_put(uint8_t *image, size_t image_len, uint8_t *s
  *   scratch, scratch_len  memory for the call's own work
  *   name, name_len        the table's name
  *   key, key_len          the key
- * length is 0. After a remove that is done the image is again one that check accepts.
- * Refusals: 1, 2, 3, 4, 6, 8, 10. */
+ * length is 0. After a remove that is done the image is again one that check accepts. It needs no free page: on a full card, too,
+ * every key that is there can be removed.
+ * Refusals: 1, 2, 3, 4, 6, 8. */
 struct calstore_answer calstore_remove(uint8_t *image, size_t image_len, uint8_t *scratch, size_t scratch_len,
                                        const uint8_t *name, size_t name_len, const uint8_t *key, size_t key_len);
 
