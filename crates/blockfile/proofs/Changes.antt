@@ -268,7 +268,10 @@ rows =
     -- no page listed, and a block left
     ∷ (put lens (0x64 ∷ []) (replicate 1004 0), 0, blockOf 9 [] ∷ [], (0, 0))
     ∷ (remove lens (0x64 ∷ []), 0, [], (8, 0))
+    -- with no free page, before, over and behind the page break
     ∷ (remove lens (0x61 ∷ []), 0, [], (0, 0))
+    ∷ (remove lens (0x62 ∷ []), 0, [], (0, 0))
+    ∷ (remove lens (0x63 ∷ []), 0, [], (0, 0))
     ∷ (create lens, 0, [], (7, 0))
     ∷ (create (0x78 ∷ []), 0, blockOf 9 (10 ∷ []) ∷ [], (10, 0))
     ∷ (create (0x78 ∷ []), 0, blockOf 9 (10 ∷ 11 ∷ []) ∷ [], (0, 0))

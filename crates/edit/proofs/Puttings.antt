@@ -3,7 +3,7 @@ use Prim.Native.Nat.{ℕ, _+_, _≤_, _<_}
 use native.Mathlib.Omega.{arith}
 use mathlib.Core.Path.{_≡_, ap, sym, _∙_, subst}
 use mathlib.Core.Bool.{Bool, true, false}
-use mathlib.Core.List.{List, _++_}
+use mathlib.Core.List.{List}
 use lib.ListN.{length}
 use borrow.Author.Tests.{le-ltb, lt-ltb}
 use Rattle.blockfile.specs.Bytes.{Write, apply}
@@ -11,7 +11,7 @@ use Rattle.blockfile.specs.Layout.{Entry, Span, Table, Layout, columns, freeCou
 use Rattle.blockfile.specs.Order.{KeyRule, keyRule, insert}
 use Rattle.blockfile.specs.WellFormed.{TableOk}
 use Rattle.blockfile.specs.Plan.{lacks, writesOf}
-use Rattle.blockfile.specs.Put.{target, spanAt, parts, wantedBy, rewrite, rewritePlan, putPlan}
+use Rattle.blockfile.specs.Put.{target, spanAt, parts, wantedBy, rewritePlan, putPlan}
 use Rattle.laws.proofs.Orders.{keys-ordered}
 use Rattle.laws.proofs.Targets.{target-is}
 use Rattle.laws.proofs.TablePut.{put-few}
