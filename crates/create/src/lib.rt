@@ -1,8 +1,8 @@
 // A table created on an accepted image.
 ghost use Rattle.create.specs.Creates.{EnterReady, Entered, CreateReady, Created};
 use draw::list::set_number;
+use edit::apply::carry_out;
 use edit::plan::make_plan;
-use edit::rewrite::carry_out;
 use edit::shape::count_conts;
 use search::table::METAINDEX;
 use search::table::find_span;

@@ -1,8 +1,8 @@
 -- The ways through `put`: the change of its spot is the text's plan.
-use Prim.Native.Nat.{ℕ, _+_, _≤_, _<_}
+use Prim.Native.Nat.{ℕ, _+_, _/_, _≤_, _<_}
 use native.Mathlib.Omega.{arith}
-use mathlib.Core.Path.{_≡_, ap, sym, _∙_, subst}
-use mathlib.Core.Bool.{Bool, true, false}
+use mathlib.Core.Path.{_≡_, refl, ap, sym, _∙_, subst}
+use mathlib.Core.Bool.{true, false, true≢false}
 use mathlib.Core.List.{List}
 use lib.ListN.{length}
 use borrow.Author.Tests.{le-ltb, lt-ltb}
@@ -23,35 +23,20 @@ use Rattle.search.proofs.Tables.{reading-span, reading-at, reading-rule}
 use Rattle.stage.specs.declared.change.Change.{Change}
 use Rattle.stage.specs.declared.change.Spot.{Spot}
 use Rattle.stage.specs.Changes.{Spotted, SpottedOn}
-use Rattle.edit.specs.Rewrites.{changed, writesFor, RewriteOf, RewriteReady, Rewritten}
+use Rattle.edit.specs.declared.plan.Plan.{Plan}
+use Rattle.edit.specs.Shapes.{ContsCounted}
+use Rattle.edit.specs.Makes.{PlanReady, PlanFor}
+use Rattle.edit.specs.Applies.{wantedOf}
+use Rattle.edit.specs.Rewrites.{changed, writesFor, RewriteOf, CarryReady, Carried}
 use Rattle.edit.specs.Puts.{TableAt, PutReady, PutDone}
 use Rattle.edit.proofs.Stands.{table-standing}
+use Rattle.edit.proofs.Committing.{plan-total}
+use Rattle.edit.proofs.Rewritings.{plan-is, plan-ready, counted, carries, written}
 
 -- a span rewritten with the entries es is the text's plan for them
 pub plan-writes : (L : Layout) (name : List ℕ) (t : Table) (i : ℕ) {es fs : List Entry} → fs ≡ es → writesFor t i (L .free) fs ≡ writesOf L (rewritePlan L name t i es)
 unfolding writesOf rewritePlan
 plan-writes L name t i e = ap (writesFor t i (L .free)) e
-
-module _ (L : Layout) (name : List ℕ) {img : List ℕ} {root page free : ℕ} {c : Change} {k v : List ℕ} {r : KeyRule} {t : Table} {i : ℕ}
-    (o : RewriteOf img root page c k v r t (L .free) i) (f : free ≡ freeCount (L .free)) {es : List Entry} (e : changed t i c k v ≡ es) {done : Bool} {out : List ℕ}
-    (w : Rewritten img root page free c k v done out) where
-  rewrite-done : done ≡ true → (lacks L (rewritePlan L name t i es) ≡ false) × (out ≡ apply (writesOf L (rewritePlan L name t i es)) img)
-  unfolding lacks rewritePlan
-  rewrite-done d =
-      let y = w .yes d r t (L .free) i o f in (
-        le-ltb (length (spanAt t i .conts) + freeCount (L .free)) (wantedBy (parts t es))
-            (subst (λ (fs : List Entry). wantedBy (parts t fs) ≤ length (spanAt t i .conts) + freeCount (L .free)) e (y .0)),
-        y .1 ∙ ap (λ (ws : List Write). apply ws img) (plan-writes L name t i e),
-      )
-
-  rewrite-refused : done ≡ false → (lacks L (rewritePlan L name t i es) ≡ true) × (out ≡ img)
-  unfolding lacks rewritePlan
-  rewrite-refused d =
-      let n = w .no d r t (L .free) i o f in (
-        lt-ltb (length (spanAt t i .conts) + freeCount (L .free)) (wantedBy (parts t es))
-            (subst (λ (fs : List Entry). length (spanAt t i .conts) + freeCount (L .free) < wantedBy (parts t fs)) e (n .0)),
-        n .1,
-      )
 
 -- the change that put makes at a spot
 abbrev pub putAt : Spot → Change
@@ -98,34 +83,58 @@ module _ {img : List ℕ} {root : ℕ} {L : Layout} {name : List ℕ} {t : Table
             few = subst (λ (es : List Entry). length es ≤ t .spanSize + 1) (sym (inserted v)) (put-few (keyRule name) (keys-ordered name) t ok k v);
           }
 
-      module _ {free : ℕ} (h : freeCount (L .free) ≡ free) (v : List ℕ) (r : Bool) (out : List ℕ) (w : Rewritten img root page free (putAt s) k v r out) where
-        pub put-done : r ≡ true → (lacks L (putPlan L name t k v) ≡ false) × (out ≡ apply (writesOf L (putPlan L name t k v)) img)
-        unfolding putPlan
-        put-done e = rewrite-done L name (rewrite-of v) (sym h) (inserted v) w e
+-- ---- The plan
 
-        pub put-refused : r ≡ false → (lacks L (putPlan L name t k v) ≡ true) × (out ≡ img)
-        unfolding putPlan
-        put-refused e = rewrite-refused L name (rewrite-of v) (sym h) (inserted v) w e
+module _ {img scratch : List ℕ} {root free : ℕ} {k v : List ℕ} (h : PutReady img scratch root free k v) (page : ℕ) (f : TargetIn img root k page)
+    (s : Spot) (g : SpottedOn img page k s) where
+  abbrev pub change-of : RewriteOf img root page (putAt s) k v (keyRule (h .name)) (h .table) (h .layout .free) (place (h .is) k)
+  change-of = rewrite-of (h .is) k page f s g v
 
-module _ {img scratch : List ℕ} {root free : ℕ} {k v : List ℕ} (h : PutReady img scratch root free k v) (page : ℕ) (f : TargetIn img root k page) where
-  pub spot-ready : SpanOn img page
-  spot-ready = target-span (h .is) k page f
+  pub put-planned : PlanReady img root page (putAt s) (length k + length v)
+  put-planned = plan-ready change-of (omega (arith, keys-short (h .name) k (h .allowed), h .short))
 
-  pub rewrite-ready : (s : Spot) → SpottedOn img page k s → RewriteReady img scratch root page free (putAt s) k v
-  rewrite-ready s g =
-      record {
-        rule = keyRule (h .name);
-        table = h .table;
-        blocks = h .layout .free;
-        place = target (keyRule (h .name)) k (h .table);
-        is = rewrite-of (h .is) k page f s g v;
-        pages = sym (h .pages);
-        short = keys-short (h .name) k (h .allowed);
-        brief = h .short;
-        lent = h .lent;
-      }
+-- ---- The answers
 
-pub put-answered : {img : List ℕ} {root free : ℕ} {k v : List ℕ} (page : ℕ) → TargetIn img root k page → (s : Spot) → SpottedOn img page k s → (r : Bool) (out : List ℕ)
-    → Rewritten img root page free (putAt s) k v r out → PutDone img root free k v r out
-put-answered {k = k} {v} page f s g r out w =
-    record { done = λ e L name t a h. put-done a k page f s g h v r out w e; refused = λ e L name t a h. put-refused a k page f s g h v r out w e }
+module _ {img : List ℕ} {root free : ℕ} {k : List ℕ} (v : List ℕ) (page : ℕ) (f : TargetIn img root k page) (s : Spot) (g : SpottedOn img page k s)
+    {x : Plan} (q : PlanFor img root page (putAt s) (length k + length v) 0 (length img / 1024) x) (n : ℕ) (m : ContsCounted img page n) where
+  module _ {L : Layout} {name : List ℕ} {t : Table} (a : TableAt img root L name t) (h : freeCount (L .free) ≡ free) where
+    abbrev o : RewriteOf img root page (putAt s) k v (keyRule name) t (L .free) (place a k)
+    o = rewrite-of a k page f s g v
+
+    -- the entries after the change are the text's
+    wanted-is : wantedOf x ≡ wantedBy (parts t (insert (keyRule name) k v (spanAt t (place a k) .entries)))
+    wanted-is = plan-total (plan-is o q) ∙ ap (λ (es : List Entry). wantedBy (parts t es)) (inserted a k page f s g v)
+
+    lacking : n + free < wantedOf x → lacks L (putPlan L name t k v) ≡ true
+    unfolding lacks putPlan rewritePlan
+    lacking l = lt-ltb (length (spanAt t (place a k) .conts) + freeCount (L .free)) _ (omega (arith, counted o q n m, wanted-is))
+
+    module _ (l : wantedOf x ≤ n + free) where
+      has-room : wantedBy (parts t (changed t (place a k) (putAt s) k v)) ≤ length (spanAt t (place a k) .conts) + freeCount (L .free)
+      has-room = omega (arith, counted o q n m, plan-total (plan-is o q))
+
+      enough : lacks L (putPlan L name t k v) ≡ false
+      unfolding lacks putPlan rewritePlan
+      enough = le-ltb (length (spanAt t (place a k) .conts) + freeCount (L .free)) _ (omega (arith, counted o q n m, wanted-is))
+
+      image-is : {out : List ℕ} → Carried img x (putAt s) k v out → out ≡ apply (writesOf L (putPlan L name t k v)) img
+      unfolding putPlan
+      image-is d = written o q has-room d ∙ ap (λ (ws : List Write). apply ws img) (plan-writes L name t (place a k) (inserted a k page f s g v))
+
+  pub put-full : n + free < wantedOf x → PutDone img root free k v false img
+  put-full l = record { done = λ e. absurd (true≢false (sym e)); refused = λ e L name t a h. (lacking a h l, refl) }
+
+  module _ (l : wantedOf x ≤ n + free) where
+    pub put-carries : {b : List ℕ} → PutReady img b root free k v → CarryReady img b x (putAt s) k v
+    put-carries h =
+        record {
+          rule = keyRule (h .name);
+          table = h .table;
+          blocks = h .layout .free;
+          place = place (h .is) k;
+          carries = carries (change-of h page f s g) q (has-room (h .is) (h .pages) l);
+          lent = h .lent;
+        }
+
+    pub put-done : {out : List ℕ} → Carried img x (putAt s) k v out → PutDone img root free k v true out
+    put-done d = record { done = λ e L name t a h. (enough a h l, image-is a h l d); refused = λ e. absurd (true≢false e) }

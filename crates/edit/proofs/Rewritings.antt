@@ -1,8 +1,7 @@
--- The ways through `rewrite`.
+-- The ways through `carry_out`: a span rewritten.
 use Prim.Native.Nat.{ℕ, _+_, _*_, _/_, _≤_, _<_}
 use native.Mathlib.Omega.{arith}
 use mathlib.Core.Path.{_≡_, refl, ap, sym, _∙_, subst}
-use mathlib.Core.Bool.{true, false, true≢false}
 use mathlib.Core.List.{List, [], _∷_, _++_}
 use lib.ListN.{length, take, drop, length-append}
 use Rattle.blockfile.specs.Bytes.{apply}
@@ -21,9 +20,9 @@ use Rattle.edit.specs.declared.plan.Plan.{Plan}
 use Rattle.edit.specs.Shapes.{ContsReady, ContsCounted}
 use Rattle.edit.specs.Makes.{Changes, PlanReady, PlanOf, PlanFor}
 use Rattle.edit.specs.Stages.{coming, PartsFor, PartsReady, PartsIn, PartsStaged}
-use Rattle.edit.specs.Applies.{wantedOf, totalOf}
+use Rattle.edit.specs.Applies.{totalOf}
 use Rattle.edit.specs.Commits.{CommitOf, CommitReady, drawnWith, drawnFor, Committed}
-use Rattle.edit.specs.Rewrites.{changed, writesFor, RewriteOf, Carries, CarryReady, Carried, RewriteReady, Rewritten}
+use Rattle.edit.specs.Rewrites.{changed, writesFor, RewriteOf, Carries, CarryReady, Carried}
 use Rattle.edit.proofs.Stands.{columns-few}
 use Rattle.edit.proofs.Makings.{span-on, entries-on, conts-on, fits-on}
 use Rattle.edit.proofs.Committing.{plan-total, stay-half, move-half, drawn-few}
@@ -175,7 +174,7 @@ module _ {img : List ℕ} {x : Plan} {c : Change} {k v : List ℕ} where
   pub carried : (b : List ℕ) → length b ≡ length img → PartsStaged img x c k v b → (out : List ℕ) → Committed img b x out → Carried img x c k v out
   carried b e g out d = record { image = λ r t bs i a. d .image r t bs i (changed t i c k v) (commit-of (a .is) (a .plan) (a .whole) (a .room) b e g) }
 
--- ---- The answers
+-- ---- A plan without further pages
 
 -- no further pages are drawn
 drawn-plain : (t : Table) (i : ℕ) (bs : List Block) (es : List Entry) (n : ℕ) → n ≡ 0 → drawnWith t i bs es n ≡ drawnFor t i bs es
@@ -208,35 +207,3 @@ module _ {img : List ℕ} {root page : ℕ} {c : Change} {k v : List ℕ} {r : K
     written d =
         let es : List Entry = changed t i c k v in
         d .image r t bs i carries ∙ ap (λ (y : Drawn). apply (y .writes ++ rewrite t i es (y .pages) .writes) img) (drawn-plain t i bs es (x .more) (q .further))
-
-module _ {img : List ℕ} {root page free : ℕ} {c : Change} {k v : List ℕ} {x : Plan} (q : PlanFor img root page c (length k + length v) 0 (length img / 1024) x)
-    (n : ℕ) (m : ContsCounted img page n) where
-  pub no-room : n + free < wantedOf x → Rewritten img root page free c k v false img
-  no-room l =
-      record {
-        yes = λ e. absurd (true≢false (sym e));
-        no = λ e r t bs i o f. (omega (arith, counted o q n m, f, plan-total (plan-is o q)), refl);
-      }
-
-  module _ (l : wantedOf x ≤ n + free) where
-    has-room : {r : KeyRule} {t : Table} {bs : List Block} {i : ℕ} → RewriteOf img root page c k v r t bs i → free ≡ freeCount bs
-        → wantedBy (parts t (changed t i c k v)) ≤ length (spanAt t i .conts) + freeCount bs
-    has-room o f = omega (arith, counted o q n m, f, plan-total (plan-is o q))
-
-    pub carry-ready : {b : List ℕ} → RewriteReady img b root page free c k v → CarryReady img b x c k v
-    carry-ready h =
-        record {
-          rule = h .rule;
-          table = h .table;
-          blocks = h .blocks;
-          place = h .place;
-          carries = carries (h .is) q (has-room (h .is) (h .pages));
-          lent = h .lent;
-        }
-
-    pub rewritten : {out : List ℕ} → Carried img x c k v out → Rewritten img root page free c k v true out
-    rewritten d =
-        record {
-          yes = λ a r t bs i o f. (has-room o f, written o q (has-room o f) d);
-          no = λ a. absurd (true≢false a);
-        }

@@ -1,13 +1,12 @@
 -- A span of a table rewritten: what is asked for, and what is left.
-use Prim.Native.Nat.{ℕ, _+_, _*_, _≤_, _<_}
+use Prim.Native.Nat.{ℕ, _+_, _*_, _≤_}
 use mathlib.Core.Path.{_≡_}
-use mathlib.Core.Bool.{Bool, true, false}
 use mathlib.Core.List.{List, _++_}
 use lib.ListN.{length}
 use Rattle.blockfile.specs.Bytes.{Write, apply}
 use Rattle.blockfile.specs.Layout.{Entry, Table, Block, freeCount}
 use Rattle.blockfile.specs.Order.{KeyRule}
-use Rattle.blockfile.specs.Put.{spanAt, parts, wantedBy, rewrite}
+use Rattle.blockfile.specs.Put.{spanAt, rewrite}
 use Rattle.stage.specs.declared.change.Change.{Change}
 use Rattle.stage.specs.Changes.{spliced}
 use Rattle.edit.specs.declared.plan.Plan.{Plan}
@@ -57,24 +56,3 @@ pub record Carried (img : List ℕ) (x : Plan) (c : Change) (k v out : List ℕ)
   pub image : (r : KeyRule) (t : Table) (bs : List Block) (i : ℕ) → Carries img x c k v r t bs i
       → out ≡ apply (drawnWith t i bs (changed t i c k v) (x .more) .writes
       ++ rewrite t i (changed t i c k v) (drawnWith t i bs (changed t i c k v) (x .more) .pages) .writes) img
-
--- ---- A span rewritten
-
-pub record RewriteReady (img buffer : List ℕ) (root page free : ℕ) (c : Change) (k v : List ℕ) : Type 0 where
-  pub rule : KeyRule
-  pub table : Table
-  pub blocks : List Block
-  pub place : ℕ
-  pub is : RewriteOf img root page c k v rule table blocks place
-  pub pages : free ≡ freeCount blocks
-  pub short : length k ≤ 65535
-  pub brief : length v ≤ 65535
-  pub lent : length buffer ≡ length img
-
--- with room for the pages wanted the image is the text's, else it is as it was
-pub record Rewritten (img : List ℕ) (root page free : ℕ) (c : Change) (k v : List ℕ) (done : Bool) (out : List ℕ) : Type 0 where
-  pub yes : done ≡ true → (r : KeyRule) (t : Table) (bs : List Block) (i : ℕ) → RewriteOf img root page c k v r t bs i → free ≡ freeCount bs
-      → (wantedBy (parts t (changed t i c k v)) ≤ length (spanAt t i .conts) + freeCount bs)
-      × (out ≡ apply (writesFor t i bs (changed t i c k v)) img)
-  pub no : done ≡ false → (r : KeyRule) (t : Table) (bs : List Block) (i : ℕ) → RewriteOf img root page c k v r t bs i → free ≡ freeCount bs
-      → (length (spanAt t i .conts) + freeCount bs < wantedBy (parts t (changed t i c k v))) × (out ≡ img)

@@ -1,11 +1,13 @@
-// A plan carried out: its pages drawn, its spans, its tower and its counts written.
+// A plan carried out: its entries staged, its pages drawn, its spans, its tower and its counts written.
 ghost use Prim.Native.Nat.{ℕ};
 ghost use mathlib.Core.Path.{_≡_};
 ghost use Rattle.edit.specs.Commits.{CommitReady, Committed};
 ghost use Rattle.edit.specs.Applies.{DrawReady, DrewPlan, FlatReady, WroteFlat, TallReady, WroteTall};
+ghost use Rattle.edit.specs.Rewrites.{CarryReady, Carried};
 use crate::counts::write_counts;
 use crate::plan::Plan;
 use crate::plan::write_spans;
+use crate::staging::stage_parts;
 use crate::tower::NewTower;
 use crate::tower::write_tower;
 use draw::draw::draw_pages;
@@ -13,6 +15,7 @@ use draw::list::number_at;
 use draw::list::set_number;
 use links::around::towers_after;
 use links::around::towers_before;
+use stage::change::Change;
 
 // Draws the pages that the plan wants, and the further ones: the list in the buffer is then the span's own page and these.
 fn draw_plan(image: &mut [u8], buffer: &mut [u8], plan: Plan)
@@ -83,7 +86,7 @@ fn commit_tall(image: &mut [u8], buffer: &mut [u8], plan: Plan)
 }
 
 // Carries out a plan whose entries are staged.
-pub fn commit(image: &mut [u8], buffer: &mut [u8], plan: Plan)
+fn commit(image: &mut [u8], buffer: &mut [u8], plan: Plan)
     requires { ⌜ CommitReady (now image) (now buffer) plan ⌝ }
     ensures { λ _. ⌜ Committed (now (image .entry)) (now (buffer .entry)) plan (now (image .exit)) ⌝ }
 {
@@ -92,4 +95,20 @@ pub fn commit(image: &mut [u8], buffer: &mut [u8], plan: Plan)
         return;
     }
     commit_tall(image, buffer, plan)
+}
+
+// Carries out a plan for which there is room: its span gets its entries after the change.
+pub fn carry_out(
+    image: &mut [u8],
+    buffer: &mut [u8],
+    plan: Plan,
+    change: Change,
+    key: &[u8],
+    value: &[u8],
+)
+    requires { ⌜ CarryReady (now image) (now buffer) plan change (now key) (now value) ⌝ }
+    ensures { λ _. ⌜ Carried (now (image .entry)) plan change (now (key .entry)) (now (value .entry)) (now (image .exit)) ⌝ }
+{
+    stage_parts(image, buffer, plan, change, key, value);
+    commit(image, buffer, plan)
 }

@@ -5,7 +5,6 @@ pub mod fields;
 pub mod height;
 pub mod plan;
 pub mod put;
-pub mod rewrite;
 pub mod shape;
 pub mod span;
 pub mod staging;

@@ -1,6 +1,8 @@
 // A key's value put into a table.
 ghost use Rattle.edit.specs.Puts.{PutReady, PutDone};
-use crate::rewrite::rewrite;
+use crate::apply::carry_out;
+use crate::plan::make_plan;
+use crate::shape::count_conts;
 use search::table::find_span;
 use stage::change::Change;
 use stage::change::find_spot;
@@ -25,5 +27,12 @@ pub fn put(
         drops: spot.there,
         adds: 1,
     };
-    rewrite(image, scratch, root, page, free, change, key, value)
+    let base = image.len() / 1024;
+    let plan = make_plan(image, root, page, change, key.len() + value.len(), 0, base);
+    let old = count_conts(image, page, plan.links.size);
+    if old + free < plan.wants.conts + plan.wants.span + plan.wants.tower {
+        return false;
+    }
+    carry_out(image, scratch, plan, change, key, value);
+    true
 }

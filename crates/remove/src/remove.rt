@@ -1,10 +1,13 @@
 // A key removed from a table.
+ghost use Rattle.remove.specs.Leaves.{LeaveReady, Left};
 ghost use Rattle.remove.specs.Removes.{Goes, RemoveReady, RemoveDone};
-use crate::leave::leave;
 use crate::unlink::unlink;
+use edit::apply::carry_out;
 use edit::fields::Links;
 use edit::fields::read_links;
+use edit::plan::make_plan;
 use search::table::find_span;
+use stage::change::Change;
 use stage::change::find_spot;
 
 // Whether a span goes with an entry of it: it is not the first, and it has no other.
@@ -15,6 +18,23 @@ fn goes(links: Links) -> bool
         return false;
     }
     if links.size == 1 { true } else { false }
+}
+
+// Takes the entry at the index out of the span on `page` of the table with the skip-list page `root`. The others never reach further
+// than all did, so they want no pages but the span's own. The scratch is as long as the image.
+fn leave(image: &mut [u8], scratch: &mut [u8], root: usize, page: usize, index: usize)
+    requires { ⌜ LeaveReady (now image) (now scratch) root page index ⌝ }
+    ensures { λ _. ⌜ Left (now (image .entry)) root page index (now (image .exit)) ⌝ }
+{
+    let change = Change {
+        index,
+        drops: 1,
+        adds: 0,
+    };
+    let none = [0u8; 0];
+    let base = image.len() / 1024;
+    let plan = make_plan(image, root, page, change, 0, 0, base);
+    carry_out(image, scratch, plan, change, &none, &none)
 }
 
 // Removes the key from the table with the skip-list page `root`. Answers whether it was there; else nothing changes. The scratch is

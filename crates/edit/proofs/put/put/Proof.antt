@@ -1,29 +1,103 @@
 use denote.Ref.{now}
+use native.Mathlib.Omega.{arith}
 use borrow.Author.Needs.{needs}
-use Rattle.edit.proofs.Puttings.{reading, spot-ready, rewrite-ready, put-answered}
+use Rattle.edit.proofs.Rewritings.{all-few, conts-ready, counted, conts-near, span-near, tower-near}
+use Rattle.edit.proofs.Puttings.{reading, target-span, change-of, put-planned, put-full, put-carries, put-done}
 use Rattle.edit.proofs.put.put.Statement.{statement}
 use Rattle.edit.proofs.put.put.Tie as tie
+
+abbrev start : tie.After-find-span → tie.Start
+start c = c .before .before .before .before .before .before
+
+abbrev span : tie.After-find-spot → tie.After-find-span
+span c = c .before .before
+
+abbrev spot : tie.After-make-plan → tie.After-find-spot
+spot c = c .before .before
+
+abbrev plan : tie.After-count-conts → tie.After-make-plan
+plan c = c .before .before
 
 find-span-requires : tie.Need-find-span-requires
 find-span-requires c κs = let s = c .before .before .before .before .before in reading (s .pre .is) (now (s .args .key))
 
 find-spot-requires : tie.Need-find-spot-requires
-find-spot-requires c κs =
-    let f = c .before in
-    spot-ready (f .before .before .before .before .before .before .pre) _ (f .find-span .ensures)
+find-spot-requires c κs = let f = c .before in target-span (start f .pre .is) _ _ (f .find-span .ensures)
 
-rewrite-requires : tie.Need-rewrite-requires
-rewrite-requires c κs =
-    let g = c .before .before in
-    let f = g .before .before in
-    rewrite-ready (f .before .before .before .before .before .before .pre) _ (f .find-span .ensures) _ (g .find-spot .ensures)
+add-make-plan : tie.Need-add-make-plan
+add-make-plan c = omega arith
+
+make-plan-requires : tie.Need-make-plan-requires
+make-plan-requires c κs =
+    let g = c .before in
+    put-planned (start (span g) .pre) _ (span g .find-span .ensures) _ (g .find-spot .ensures)
+
+count-conts-requires : tie.Need-count-conts-requires
+count-conts-requires c κs =
+    let p = c .before in
+    let g = spot p in
+    conts-ready (change-of (start (span g) .pre) _ (span g .find-span .ensures) _ (g .find-spot .ensures)) (p .make-plan .ensures)
+
+add-if1 : tie.Need-add-if1
+add-if1 c =
+    let p = plan c in
+    let g = spot p in
+    let o = change-of (start (span g) .pre) _ (span g .find-span .ensures) _ (g .find-spot .ensures) in
+    omega (arith, counted o (p .make-plan .ensures) _ (c .count-conts .ensures), start (span g) .pre .pages, all-few o, o .standing .readable .small)
+
+add-if1-2 : tie.Need-add-if1-2
+add-if1-2 c =
+    let p = plan (c .before) in
+    let g = spot p in
+    let o = change-of (start (span g) .pre) _ (span g .find-span .ensures) _ (g .find-spot .ensures) in
+    omega (arith, conts-near o (p .make-plan .ensures), span-near o (p .make-plan .ensures))
+
+add-if1-3 : tie.Need-add-if1-3
+add-if1-3 c =
+    let p = plan (c .before .before) in
+    let g = spot p in
+    let o = change-of (start (span g) .pre) _ (span g .find-span .ensures) _ (g .find-spot .ensures) in
+    omega (arith, conts-near o (p .make-plan .ensures), span-near o (p .make-plan .ensures), tower-near o (p .make-plan .ensures))
 
 returns : tie.Need-returns
 returns c =
-    let w = c .before .before .before .before in
-    let g = w .before .before .before in
-    let f = g .before .before in
-    put-answered _ (f .find-span .ensures) _ (g .find-spot .ensures) _ _ (w .rewrite .ensures)
+    let n = c .before .before .before in
+    let p = plan n in
+    let g = spot p in
+    put-full _ _ (span g .find-span .ensures) _ (g .find-spot .ensures) (p .make-plan .ensures) _ (n .count-conts .ensures) (c .if1 .taken)
+
+carry-out-requires : tie.Need-carry-out-requires
+carry-out-requires c κs =
+    let t = c .before .before in
+    let n = t .before .before .before in
+    let p = plan n in
+    let g = spot p in
+    put-carries _ _ (span g .find-span .ensures) _ (g .find-spot .ensures) (p .make-plan .ensures) _ (n .count-conts .ensures) (t .if1 .left) (start (span g) .pre)
+
+returns-2 : tie.Need-returns-2
+returns-2 c =
+    let d = c .before .before .before .before in
+    let t = d .before .before .before in
+    let n = t .before .before .before in
+    let p = plan n in
+    let g = spot p in
+    put-done _ _ (span g .find-span .ensures) _ (g .find-spot .ensures) (p .make-plan .ensures) _ (n .count-conts .ensures) (t .if1 .left) (d .carry-out .ensures)
 
 pub put-spec : {M : Type 1} → statement M
-put-spec = tie.close (tie.spec find-span-requires find-spot-requires rewrite-requires (λ c. search needs) (λ c. search needs) returns)
+put-spec =
+    tie.close
+    (tie.spec
+    find-span-requires
+    find-spot-requires
+    add-make-plan
+    make-plan-requires
+    count-conts-requires
+    add-if1
+    add-if1-2
+    add-if1-3
+    (λ c. search needs)
+    returns
+    carry-out-requires
+    (λ c. search needs)
+    (λ c. search needs)
+    returns-2)

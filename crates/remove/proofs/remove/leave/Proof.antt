@@ -1,8 +1,8 @@
--- `remove::leave::leave` meets its contract: the plan is carried out without asking for room.
+-- `remove::remove::leave` meets its contract: the plan is carried out without asking for room.
 use borrow.Author.Needs.{needs}
 use Rattle.remove.proofs.Leavings.{planned, carry-ready, left}
-use Rattle.remove.proofs.leave.leave.Statement.{statement}
-use Rattle.remove.proofs.leave.leave.Tie as tie
+use Rattle.remove.proofs.remove.leave.Statement.{statement}
+use Rattle.remove.proofs.remove.leave.Tie as tie
 
 make-plan-requires : tie.Need-make-plan-requires
 make-plan-requires c κs = planned (c .before .before .before .pre)

@@ -1,8 +1,8 @@
 use borrow.Author.Needs.{needs}
 use mathlib.Core.Path.{_∙_}
 use Rattle.edit.proofs.Rewritings.{stage-ready, commit-ready, carried}
-use Rattle.edit.proofs.rewrite.carry_out.Statement.{statement}
-use Rattle.edit.proofs.rewrite.carry_out.Tie as tie
+use Rattle.edit.proofs.apply.carry_out.Statement.{statement}
+use Rattle.edit.proofs.apply.carry_out.Tie as tie
 
 stage-parts-requires : tie.Need-stage-parts-requires
 stage-parts-requires c κs = stage-ready (c .before .before .before .before .before .before .pre)
