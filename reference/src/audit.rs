@@ -120,23 +120,24 @@ fn wanted(table: &Table, key: &[u8], value: &[u8], more: usize) -> usize {
     reach(lower) + 1 + reach(upper) + usize::from(has_tower) + more
 }
 
-/// Of the calls not refused with 1 to 9, those get 10 for which "wanted pages exceed the old
-/// continuation pages plus F"; a remove never does.
+/// Of the calls not refused with 1 to 9, those get 10 for which "put, create: wanted pages exceed
+/// the old continuation pages plus F"; "10 is no longer listed for remove" (document 02, T-07).
 fn no_room_rightly(before: &Layout, call: &Call, answer: &Answer) -> Result<(), String> {
     if !matches!(answer.number, 0 | 10) {
         return Ok(());
     }
-    let table = changed_table(before, call);
-    let exceed = table.is_some_and(|table| {
-        let wanted = match call {
-            Call::Put { key, value, .. } => wanted(table, key, value, 0),
-            Call::Create { name } => wanted(table, name, &[0; 4], 3),
-            _ => 0,
-        };
-        let old = span_of(table, changed_key(call)).continuations.len();
-        wanted > old + before.free_pages()
+    let exceed = changed_table(before, call).is_some_and(|table| match call {
+        Call::Put { key, value, .. } => exceeds(before, table, key, value, 0),
+        Call::Create { name } => exceeds(before, table, name, &[0; 4], 3),
+        Call::Check | Call::Get { .. } | Call::Remove { .. } | Call::Next { .. } => false,
     });
     ensure(exceed == (answer.number == 10), "10 exactly in its case")
+}
+
+/// Whether the "wanted pages exceed the old continuation pages plus F".
+fn exceeds(before: &Layout, table: &Table, key: &[u8], value: &[u8], more: usize) -> bool {
+    let old = span_of(table, key).continuations.len();
+    wanted(table, key, value, more) > old + before.free_pages()
 }
 
 /// A done put, remove or create.
@@ -220,6 +221,9 @@ impl<'a> Change<'a> {
             old.extend(self.target.tower.map(|tower| tower.page));
         }
         let used = if kept { self.pages_used() } else { Vec::new() };
+        let removes = matches!(self.call, Call::Remove { .. });
+        let takes = used.len() > old.len();
+        ensure(!(removes && takes), "a remove takes no page")?;
         while old.len() < used.len() {
             old.push(take(&mut free).ok_or("does not hold: a page was free")?);
         }

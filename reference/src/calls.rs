@@ -22,7 +22,8 @@ pub struct Answer {
     pub free: u64,
 }
 
-/// The refusals.
+/// The refusals. `NoRoom` is one of put and create alone: "10 is no longer listed for remove"
+/// (document 02, T-07).
 #[derive(Clone, Copy, Debug, PartialEq, Eq)]
 pub(crate) enum Refusal {
     ImageLength,
@@ -150,10 +151,9 @@ fn try_remove(
 ) -> Result<Answer, Refusal> {
     let mut layout = open(image, scratch)?;
     require(legal_name(name) && legal_key(key), Refusal::NameOrKey)?;
-    let free = layout.free_pages();
     let table = find_mut(&mut layout, name)?;
     require(table.value(key).is_some(), Refusal::NoSuchKey)?;
-    edit::remove(image, free, table, key)?;
+    edit::remove(image, table, key);
     Ok(Answer::default())
 }
 

@@ -1,7 +1,8 @@
 //! How put, remove and create change bytes.
 //!
-//! Each of them works out what becomes of the target span, draws the pages wanted, brings the
-//! table's layout up to date, and writes what document 01 names.
+//! Put and create work out what becomes of the target span, draw the pages wanted, bring the
+//! table's layout up to date, and write what document 01 names. A remove takes no page: what is left
+//! of the span fits on the pages that the span has.
 
 use crate::encode;
 use crate::entries::{self, Entry};
@@ -9,7 +10,8 @@ use crate::free;
 use crate::layout::{Layout, Span, Table, Tower};
 use crate::page;
 
-/// "Wanted pages exceed the old continuation pages plus F."
+/// "Put, create: wanted pages exceed the old continuation pages plus F"; for remove "10 is no longer
+/// listed" (document 02, T-07).
 #[derive(Debug, PartialEq, Eq)]
 pub struct NoRoom;
 
@@ -19,7 +21,7 @@ const NEW_TABLE: usize = 3;
 /// The max height of a created table's head.
 const NEW_HEAD_MAX: u16 = 12;
 
-/// What becomes of the target span.
+/// What becomes of the target span of a put.
 struct Plan {
     /// The place of the target span.
     place: usize,
@@ -52,25 +54,22 @@ pub fn put(
     Ok(())
 }
 
-/// Removes a key that is there from a table.
-pub fn remove(image: &mut [u8], free: usize, table: &mut Table, key: &[u8]) -> Result<(), NoRoom> {
+/// Removes a key that is there from a table. "Taking an entry out never makes the others reach
+/// further, page breaks included" (document 02, T-07): those left have the first of the span's
+/// continuation pages, and the others are given back.
+pub fn remove(image: &mut [u8], table: &mut Table, key: &[u8]) {
     let place = table.target(key);
-    let mut lower = table.spans[place].entries.clone();
-    lower.retain(|entry| entry.key != key);
-    if lower.is_empty() && place != 0 {
+    let span = &mut table.spans[place];
+    span.entries.retain(|entry| entry.key != key);
+    if span.entries.is_empty() && place != 0 {
         unlink(image, table, place);
-        return Ok(());
+        return;
     }
-    let plan = Plan {
-        place,
-        lower,
-        split: None,
-    };
-    let mut drawn = draw(image, free, table, &plan, 0)?;
-    settle(table, plan, &mut drawn);
-    write_target(image, table, place, false);
-    give_back_all(image, &drawn.left_over);
-    Ok(())
+    let kept = entries::continuations(&span.entries);
+    let left_over = span.continuations.split_off(kept);
+    write_span_whole(image, table, place);
+    encode::counts(image, table);
+    give_back_all(image, &left_over);
 }
 
 /// "Create is a put of the name into the metaindex that also wants, last, a skip-list page, a span

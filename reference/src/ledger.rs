@@ -60,7 +60,8 @@ impl Ledger {
     }
 
     /// "The ledger is fed the call's kind, name, key and value, the lengths of its scratch and
-    /// answer buffer, and, for put, remove and create, whether the answer was 10."
+    /// answer buffer, and, for put and create, whether the answer was 10"; with T-07 of document 02
+    /// no longer for remove. `was_ten` says nothing of the other kinds of call.
     pub fn feed(&mut self, request: &Request, was_ten: bool) -> Said {
         let number = self.number(request, was_ten);
         let found = self.asked(&request.call);
@@ -93,7 +94,7 @@ impl Ledger {
             (7, self.table_exists(&request.call)),
             (8, self.no_such_key(&request.call)),
             (9, self.answer_short(request)),
-            (10, request.call.changes() && was_ten),
+            (10, no_room(&request.call, was_ten)),
         ];
         let first = rows.iter().find(|(_, holds)| *holds);
         first.map_or(0, |(number, _)| *number)
@@ -212,4 +213,10 @@ fn bad_name(name: &[u8]) -> bool {
 /// "value over 65,535"
 fn value_too_long(call: &Call) -> bool {
     matches!(call, Call::Put { value, .. } if value.len() > 65_535)
+}
+
+/// "put, create: wanted pages exceed the old continuation pages plus F", which the ledger knows only
+/// by what it is fed; "10 is no longer listed for remove" (document 02, T-07)
+fn no_room(call: &Call, was_ten: bool) -> bool {
+    was_ten && matches!(call, Call::Put { .. } | Call::Create { .. })
 }

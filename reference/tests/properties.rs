@@ -248,6 +248,80 @@ fn the_walk_and_the_row_of_bytes_agree() {
     }
 }
 
+/// Where the lengths of each entry lie, in order, and the place after the last.
+fn places(list: &[(usize, usize)]) -> (Vec<Place>, Place) {
+    let mut place = Place::START;
+    let mut at = Vec::new();
+    for &(key, value) in list {
+        at.push(place.lengths());
+        place = place.after_entry(key, value);
+    }
+    (at, place)
+}
+
+/// "Taking an entry out never makes the others reach further, page breaks included" (document 02,
+/// T-07): for every entry of every span, each of the others then lies no later, and together they
+/// reach no more pages.
+#[test]
+fn an_entry_taken_out_makes_no_other_reach_further() {
+    let mut random = Random::new(13);
+    let (mut over_pages, mut fewer, mut gap_more) = (0, 0, 0);
+    for _ in 0..1500 {
+        let knobs = Knobs::any(&mut random);
+        let layout = generate::layout(&mut random, &knobs);
+        for span in layout.all_tables().flat_map(|table| &table.spans) {
+            let entries = span.entries.iter();
+            let all: Vec<(usize, usize)> = entries
+                .map(|entry| (entry.key.len(), entry.value.len()))
+                .collect();
+            let (before, _) = places(&all);
+            for out in 0..all.len() {
+                let rest = [&all[..out], &all[out + 1..]].concat();
+                let (after, end) = places(&rest);
+                let others = [&before[..out], &before[out + 1..]].concat();
+                assert!(after.iter().zip(&others).all(|(new, old)| new <= old));
+                assert!(end.page <= span.continuations.len());
+                assert_eq!(end.page, reach(&rest));
+                over_pages += u32::from(end.page > 0);
+                fewer += u32::from(end.page < span.continuations.len());
+                gap_more += u32::from(gaps(&rest) > gaps(&all));
+            }
+        }
+    }
+    assert!(over_pages > 5000 && fewer > 3000 && gap_more > 500);
+}
+
+/// How many entries have their lengths moved to the next page by 1 to 3 bytes left.
+fn gaps(list: &[(usize, usize)]) -> usize {
+    let mut place = Place::START;
+    let mut gaps = 0;
+    for &(key, value) in list {
+        gaps += usize::from((1..4).contains(&place.left()));
+        place = place.after_entry(key, value);
+    }
+    gaps
+}
+
+/// The step from one entry to the next, for every two places next to one another: an entry that
+/// begins earlier ends no later. With `PERIOD` bytes more it ends a page later at the same offset,
+/// so the lengths tried stand for all.
+#[test]
+fn an_entry_that_begins_earlier_ends_no_later() {
+    const PERIOD: usize = 1024 - 8;
+    let on_page = |page, from: usize| (from..=1024).map(move |offset| Place { page, offset });
+    let places: Vec<Place> = on_page(0, 20).chain(on_page(1, 8)).collect();
+    for bytes in 0..=PERIOD {
+        let ends = places.iter().map(|place| place.after_entry(1, bytes));
+        let ends: Vec<Place> = ends.collect();
+        assert!(ends.is_sorted(), "{bytes}");
+        for (begin, end) in places.iter().zip(&ends) {
+            assert!(begin < end);
+            let later = begin.after_entry(1, bytes + PERIOD);
+            assert_eq!((later.page, later.offset), (end.page + 1, end.offset));
+        }
+    }
+}
+
 /// An image with a table "t" of two spans, and a put that splits the second one.
 fn before_split() -> (Sample, Request) {
     let mut image = card(20, 2);

@@ -2,8 +2,12 @@
 
 mod common;
 
-use common::{card, create, put};
+use common::{card, create, layout, put, remove, table};
+use reference::audit::audit;
 use reference::calls::{self, Answer};
+use reference::generate::Sample;
+use reference::ledger::{tables_of, Ledger};
+use reference::request::{Call, Request};
 
 const LONG: usize = 65_536;
 
@@ -180,4 +184,56 @@ fn no_room_comes_last() {
         calls::create(image, scratch, b"t")
     });
     assert_eq!(answer, refused(7));
+}
+
+/// An image with no page free and a table "t": "k" and a long value under "l", on three pages.
+fn full() -> Vec<u8> {
+    let mut image = card(9, 16);
+    assert_eq!(create(&mut image, b"t"), 0);
+    assert_eq!(put(&mut image, b"t", b"k", b"value"), 0);
+    assert_eq!(put(&mut image, b"t", b"l", &[7; 2010]), 0);
+    assert_eq!(layout(&image).free_pages(), 0);
+    assert_eq!(table(&image, b"t").spans[0].continuations.len(), 2);
+    image
+}
+
+#[test]
+fn a_remove_needs_no_room() {
+    let mut image = full();
+    let answer = on_copy(&image, |image, scratch| {
+        calls::put(image, scratch, b"t", b"l", &[7; 3100])
+    });
+    assert_eq!(answer, refused(10));
+    let answer = on_copy(&image, |image, scratch| {
+        calls::remove(image, scratch, b"t", b"m")
+    });
+    assert_eq!(answer, refused(8));
+    let old = table(&image, b"t").spans[0].continuations.clone();
+    assert_eq!(remove(&mut image, b"t", b"k"), 0);
+    assert_eq!(table(&image, b"t").spans[0].continuations, old[..1]);
+    assert_eq!(layout(&image).free_pages(), 1);
+    assert_eq!(remove(&mut image, b"t", b"l"), 0);
+    assert_eq!(layout(&image).free_pages(), 2);
+}
+
+/// A remove that answers 10 is not what the ledger says, and fails the audit.
+#[test]
+fn a_remove_is_not_refused_with_10() {
+    let image = full();
+    let layout = layout(&image);
+    let request = Request {
+        call: Call::Remove {
+            name: b"t".to_vec(),
+            key: b"k".to_vec(),
+        },
+        scratch_length: image.len(),
+        answer_length: 0,
+        fill: 0,
+    };
+    let mut ledger = Ledger::new(u64::from(layout.pages), tables_of(&layout));
+    assert_eq!(ledger.feed(&request, true).number, 0);
+    assert_eq!(ledger.feed(&request, true).number, 8);
+    let before = Sample { image, layout };
+    let outcome = audit(&before, &request, &refused(10), &before.image);
+    assert!(outcome.is_err_and(|what| what.contains("10")));
 }
