@@ -1,13 +1,16 @@
 //! Put, remove and create on an accepted image.
 //!
-//! What becomes of the target span is planned by lengths alone, so that a call without room is
-//! refused before any write. Then the pages are drawn, the span's new pages are staged in the
-//! scratch, which is zero, and copied to the image whole; the scratch is zero again afterwards.
+//! What becomes of the target span of a put or create is planned by lengths alone, so that a call
+//! without room is refused before any write. Then the pages are drawn, the span's new pages are
+//! staged in the scratch, which is zero, and copied to the image whole; the scratch is zero again
+//! afterwards. A remove takes no page, so it stages what is left without a plan.
 
+use super::entry::Entries;
 use super::free;
 use super::page::{link, page, page_mut, set_mark, set_u16, set_u32, u16_at, u32_at, Page};
-use super::plan::{change_counts, write_tower, Plan};
+use super::plan::{change_counts, neighbours, size_of, write_span, write_tower, Plan};
 use super::search::{self, Path, Table};
+use super::stage::{self, Bytes, Writer};
 use crate::calls::Refusal;
 use crate::page::{skip_list, span, superblock, tower, tower_entry, Kind, SUPERBLOCK};
 
@@ -26,7 +29,7 @@ pub fn put(
     key: &[u8],
     value: &[u8],
 ) -> Result<(), Refusal> {
-    let plan = Plan::put(pages, table, key, value.len());
+    let plan = Plan::new(pages, table, key, value.len());
     let mut draw = plan.draw(pages, free, 0)?;
     let new = plan.link(pages, staged, &mut draw);
     plan.stage(pages, staged, value);
@@ -42,7 +45,7 @@ pub fn create(
     free: u64,
     name: &[u8],
 ) -> Result<(), Refusal> {
-    let plan = Plan::put(pages, Table::metaindex(pages), name, 4);
+    let plan = Plan::new(pages, Table::metaindex(pages), name, 4);
     if plan.replaces() {
         return Err(Refusal::TableExists);
     }
@@ -61,21 +64,45 @@ pub fn create(
 pub fn remove(
     pages: &mut [Page],
     staged: &mut [Page],
-    free: u64,
     table: Table,
     key: &[u8],
 ) -> Result<(), Refusal> {
-    let plan = Plan::remove(pages, table, key).ok_or(Refusal::NoSuchKey)?;
-    if plan.empties() && plan.target() != table.first_span {
-        unlink(pages, table, key, plan.target());
-        return Ok(());
+    let target = table.target(pages, key).span;
+    let spot = search::spot(pages, target, key);
+    if spot.entry.is_none() {
+        return Err(Refusal::NoSuchKey);
     }
-    let mut draw = plan.draw(pages, free, 0)?;
-    let new = plan.link(pages, staged, &mut draw);
-    plan.stage(pages, staged, &[]);
-    plan.write(pages, staged, new);
-    draw.give_back_rest(pages);
+    if size_of(pages, target) == 1 && target != table.first_span {
+        unlink(pages, table, key, target);
+    } else {
+        rewrite_without(pages, staged, table, target, spot.below);
+    }
     Ok(())
+}
+
+/// Writes a span without its entry at one place. The others reach no further than before, so they
+/// keep the first of its continuation pages; what is left over is given back in chain order.
+fn rewrite_without(
+    pages: &mut [Page],
+    staged: &mut [Page],
+    table: Table,
+    number: u32,
+    without: usize,
+) {
+    let mut writer = Writer::new(staged);
+    for (place, entry) in Entries::of(pages, number).enumerate() {
+        if place != without {
+            writer.entry(pages, Bytes::Stored(entry.key), Bytes::Stored(entry.value));
+        }
+    }
+    let last = writer.last();
+    let left_over = stage::keep_chain(pages, &mut staged[..last], number);
+    let (previous, next) = neighbours(pages, number);
+    let size = size_of(pages, number) - 1;
+    write_span(&mut staged[0], previous, next, table.span_size, size);
+    stage::copy_chain(pages, &mut staged[..=last], number);
+    change_counts(pages, table.root, [-1, 0, 0]);
+    free::give_back_chain(pages, left_over);
 }
 
 /// Writes the three pages of an empty table whole.

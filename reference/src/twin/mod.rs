@@ -105,11 +105,11 @@ fn try_remove(
     name: &[u8],
     key: &[u8],
 ) -> Result<(), Refusal> {
-    let (pages, counts) = open(image, scratch)?;
+    let (pages, _) = open(image, scratch)?;
     require(legal_name(name) && legal_key(key), Refusal::NameOrKey)?;
     let table = Table::named(pages, name).ok_or(Refusal::NoSuchTable)?;
     let (pages, staged) = lent(image, scratch);
-    edit::remove(pages, staged, counts.free, table, key)
+    edit::remove(pages, staged, table, key)
 }
 
 /// Creates a table.

@@ -1,4 +1,4 @@
-//! What becomes of the target span of a put, remove or create, and writing it.
+//! What becomes of the target span of a put or create, and writing it.
 
 use super::entry::Entries;
 use super::free::{count_chain, Draw};
@@ -8,27 +8,20 @@ use super::stage::{self, Bytes, Writer};
 use crate::calls::Refusal;
 use crate::page::{skip_list, span, tower, tower_entry, Kind};
 
-/// What happens to the entries of the target span at one place.
-#[derive(Clone, Copy, Debug, PartialEq, Eq)]
-enum Change {
-    Insert,
-    Replace,
-    Remove,
-}
-
 /// What becomes of the target span.
 pub struct Plan<'a> {
     table: Table,
     path: Path,
-    change: Change,
-    /// The place of the change among the entries.
+    /// Whether the key is there already, so that only its value changes.
+    replaces: bool,
+    /// The place of the key among the entries.
     at: usize,
     key: &'a [u8],
-    /// How many entries there are after the change.
+    /// How many entries there are after the put.
     size: usize,
     /// How many of them stay in the target.
     stay: usize,
-    /// The continuation pages of the target after the change.
+    /// The continuation pages of the target after the put.
     continuations: usize,
     split: Option<Split>,
 }
@@ -49,69 +42,31 @@ pub struct New {
 }
 
 impl<'a> Plan<'a> {
-    /// A change at a place of the target, not measured yet: all entries stay.
-    fn start(
-        table: Table,
-        path: Path,
-        change: Change,
-        at: usize,
-        key: &'a [u8],
-        size: usize,
-    ) -> Plan<'a> {
-        Plan {
+    /// The plan to put a value of this length under a key.
+    pub fn new(pages: &[Page], table: Table, key: &'a [u8], value: usize) -> Plan<'a> {
+        let path = table.target(pages, key);
+        let spot = search::spot(pages, path.span, key);
+        let replaces = spot.entry.is_some();
+        let size = size_of(pages, path.span) + usize::from(!replaces);
+        let splits = size > usize::from(table.span_size);
+        let mut plan = Plan {
             table,
             path,
-            change,
-            at,
+            replaces,
+            at: spot.below,
             key,
             size,
-            stay: size,
+            stay: if splits { size.div_ceil(2) } else { size },
             continuations: 0,
             split: None,
-        }
-    }
-
-    /// The plan to put a value of this length under a key.
-    pub fn put(pages: &[Page], table: Table, key: &'a [u8], value: usize) -> Plan<'a> {
-        let path = table.target(pages, key);
-        let old = size_of(pages, path.span);
-        let spot = search::spot(pages, path.span, key);
-        let (change, size) = match spot.entry {
-            Some(_) => (Change::Replace, old),
-            None => (Change::Insert, old + 1),
         };
-        let mut plan = Plan::start(table, path, change, spot.below, key, size);
-        if size > usize::from(table.span_size) {
-            plan.stay = size.div_ceil(2);
-        }
         plan.measure(pages, value);
         plan
     }
 
-    /// The plan to remove a key, if it is there.
-    pub fn remove(pages: &[Page], table: Table, key: &'a [u8]) -> Option<Plan<'a>> {
-        let path = table.target(pages, key);
-        let spot = search::spot(pages, path.span, key);
-        spot.entry?;
-        let size = size_of(pages, path.span) - 1;
-        let mut plan = Plan::start(table, path, Change::Remove, spot.below, key, size);
-        plan.measure(pages, 0);
-        Some(plan)
-    }
-
-    /// The page of the target span.
-    pub fn target(&self) -> u32 {
-        self.path.span
-    }
-
     /// Whether the key is there already.
     pub fn replaces(&self) -> bool {
-        self.change == Change::Replace
-    }
-
-    /// Whether no entry is left.
-    pub fn empties(&self) -> bool {
-        self.size == 0
+        self.replaces
     }
 
     /// Finds how many continuation pages the target and, on a split, the new span have.
@@ -134,8 +89,8 @@ impl<'a> Plan<'a> {
         });
     }
 
-    /// Calls `each` with the key and value of every entry after the change, in order; `value` is
-    /// that of the key put.
+    /// Calls `each` with the key and value of every entry after the put, in order; `value` is that
+    /// of the key put.
     fn each_entry<'b>(
         &self,
         pages: &[Page],
@@ -146,10 +101,8 @@ impl<'a> Plan<'a> {
         for entry in old.by_ref().take(self.at) {
             each(Bytes::Stored(entry.key), Bytes::Stored(entry.value));
         }
-        if self.change != Change::Remove {
-            each(Bytes::Lent(self.key), Bytes::Lent(value));
-        }
-        if self.change != Change::Insert {
+        each(Bytes::Lent(self.key), Bytes::Lent(value));
+        if self.replaces {
             old.next();
         }
         for entry in old {
@@ -211,16 +164,16 @@ impl<'a> Plan<'a> {
     /// Writes the staged spans to the image, the links and the tower of the new one, and the
     /// counts.
     pub fn write(&self, pages: &mut [Page], staged: &mut [Page], new: New) {
-        let target = page(pages, self.target());
-        let previous = u32_at(target, span::PREVIOUS);
-        let next = u32_at(target, span::NEXT);
+        let (target, max_keys) = (self.path.span, self.table.span_size);
+        let (previous, next) = neighbours(pages, target);
         let after = if new.span == 0 { next } else { new.span };
         let (lower, upper) = staged.split_at_mut(self.continuations + 1);
-        self.finish(&mut lower[0], previous, after, self.stay);
-        stage::copy_chain(pages, lower, self.target());
+        write_span(&mut lower[0], previous, after, max_keys, self.stay);
+        stage::copy_chain(pages, lower, target);
         if let Some(split) = self.split {
             let upper = &mut upper[..split.continuations + 1];
-            self.finish(&mut upper[0], self.target(), next, self.size - self.stay);
+            let size = self.size - self.stay;
+            write_span(&mut upper[0], target, next, max_keys, size);
             stage::copy_chain(pages, upper, new.span);
             if next != 0 {
                 set_u32(page_mut(pages, next), span::PREVIOUS, new.span);
@@ -230,15 +183,6 @@ impl<'a> Plan<'a> {
             }
         }
         self.write_counts(pages, new);
-    }
-
-    /// Writes the fields of a staged span's page but for its continuation page.
-    fn finish(&self, page: &mut Page, previous: u32, next: u32, size: usize) {
-        set_mark(page, Kind::Span);
-        set_u32(page, span::PREVIOUS, previous);
-        set_u32(page, span::NEXT, next);
-        set_u16(page, span::MAX_KEYS, self.table.span_size);
-        set_u16(page, span::SIZE, size as u16);
     }
 
     /// Writes the tower of the new span and links it into its levels. Above the head's current
@@ -262,19 +206,22 @@ impl<'a> Plan<'a> {
     }
 
     fn write_counts(&self, pages: &mut [Page], new: New) {
-        let keys = match self.change {
-            Change::Insert => 1,
-            Change::Replace => 0,
-            Change::Remove => -1,
-        };
+        let keys = i32::from(!self.replaces);
         let spans = i32::from(new.span != 0);
         let towers = i32::from(new.tower != 0);
         change_counts(pages, self.table.root, [keys, spans, towers]);
     }
 }
 
-fn size_of(pages: &[Page], number: u32) -> usize {
+/// How many entries a span has.
+pub fn size_of(pages: &[Page], number: u32) -> usize {
     usize::from(u16_at(page(pages, number), span::SIZE))
+}
+
+/// The spans before and after a span, each 0 for none.
+pub fn neighbours(pages: &[Page], number: u32) -> (u32, u32) {
+    let page = page(pages, number);
+    (u32_at(page, span::PREVIOUS), u32_at(page, span::NEXT))
 }
 
 fn head_max(pages: &[Page], table: &Table) -> u16 {
@@ -289,6 +236,15 @@ pub fn change_counts(pages: &mut [Page], root: u32, more: [i32; 3]) {
         let count = u32_at(list, offset).wrapping_add_signed(more);
         set_u32(list, offset, count);
     }
+}
+
+/// Writes the fields of a span on its staged page but for its continuation page.
+pub fn write_span(page: &mut Page, previous: u32, next: u32, max_keys: u16, size: usize) {
+    set_mark(page, Kind::Span);
+    set_u32(page, span::PREVIOUS, previous);
+    set_u32(page, span::NEXT, next);
+    set_u16(page, span::MAX_KEYS, max_keys);
+    set_u16(page, span::SIZE, size as u16);
 }
 
 /// Writes the fields of a tower on a page that is zero.

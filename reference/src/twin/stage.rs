@@ -1,7 +1,7 @@
 //! Staging a span's pages: how far its entries reach, writing them, and copying them to the image.
 
 use super::entry::Run;
-use super::page::{link, page_mut, set_mark, set_u16, Page};
+use super::page::{link, page, page_mut, set_link, set_mark, set_u16, Page};
 use crate::page::{continuation, span, Kind, PAGE};
 
 /// Bytes of an entry: on the image, or lent by the caller.
@@ -41,6 +41,11 @@ impl<'a> Writer<'a> {
     pub fn begin(&mut self, page: usize) {
         self.page = page;
         self.offset = span::ENTRIES;
+    }
+
+    /// The staged page on which the entries written so far end.
+    pub fn last(&self) -> usize {
+        self.page
     }
 
     /// Goes to the next page, a continuation page.
@@ -102,6 +107,17 @@ pub fn after_entry(place: usize, bytes: usize) -> usize {
 /// How many pages entries reach that end here.
 pub fn reach(end: usize) -> usize {
     end.div_ceil(DATA)
+}
+
+/// Links staged pages to the continuation pages, in their order, of the span on page `number`; gives
+/// the first of these that is left, or 0.
+pub fn keep_chain(pages: &[Page], staged: &mut [Page], number: u32) -> u32 {
+    let mut next = link(page(pages, number));
+    for staged in staged {
+        set_link(staged, next);
+        next = link(page(pages, next));
+    }
+    next
 }
 
 /// Copies a span's staged pages to the image, the first to page `number` and the others where
