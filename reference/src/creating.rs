@@ -102,10 +102,11 @@ pub fn script(seed: u64) -> (Script, Cases) {
         calls,
         |random, layout, ledger, step| {
             let trend = if calls == LONG { phase(step) } else { trend };
-            match trend != Trend::Draining && random.percent(20) {
+            let call = match trend != Trend::Draining && random.percent(20) {
                 true => create(random, &layout.meta),
                 false => script::call(random, ledger.tables(), trend),
-            }
+            };
+            script::with_buffers(random, ledger, call)
         },
         |made| {
             let mut cases = of_create(made);

@@ -73,7 +73,12 @@ impl Place {
 
 /// The place after the last of these entries.
 pub fn end(entries: &[Entry]) -> Place {
-    entries.iter().fold(Place::START, |place, entry| {
+    end_from(Place::START, entries)
+}
+
+/// The place after the last of these entries, which begin at or after a place.
+pub fn end_from(place: Place, entries: &[Entry]) -> Place {
+    entries.iter().fold(place, |place, entry| {
         place.after_entry(entry.key.len(), entry.value.len())
     })
 }

@@ -3,7 +3,9 @@
 use crate::audit;
 use crate::calls::Answer;
 use crate::check::check;
+use crate::compare::tally::add_all;
 use crate::damage;
+use crate::emptying;
 use crate::events;
 use crate::generate::{self, Knobs, Sample};
 use crate::layout::Layout;
@@ -11,6 +13,7 @@ use crate::ledger::{tables_of, Ledger, Said};
 use crate::legal;
 use crate::page;
 use crate::random::Random;
+use crate::reached::Cases;
 use crate::request::{CallKind, Request};
 use crate::rule::Rule;
 use crate::script::{self, Script, Trend};
@@ -26,6 +29,8 @@ pub struct Tally {
     pub calls: BTreeMap<(CallKind, u32), u64>,
     /// What happened in done calls.
     pub events: BTreeMap<&'static str, u64>,
+    /// What the lists that empty full cards reached.
+    pub emptying: Cases,
     /// Damaged images by rule.
     pub damaged: BTreeMap<Rule, Damaged>,
     /// Images with some bytes set anew that were accepted, and that were rejected.
@@ -49,23 +54,33 @@ pub struct Failure {
     pub what: String,
 }
 
-/// Runs `count` lists and damaged images, for the seeds from `seed` on.
+/// Runs `count` lists of each kind and damaged images, for the seeds from `seed` on.
 pub fn fuzz(seed: u64, count: u64) -> Result<Tally, Failure> {
     let mut tally = Tally::default();
     for seed in (0..count).map(|step| seed.wrapping_add(step)) {
         let failure = |what| Failure { seed, what };
-        run_list(seed, &mut tally).map_err(failure)?;
+        run_list(script::script(seed, CALLS), &mut tally).map_err(failure)?;
+        run_emptying(seed, &mut tally).map_err(failure)?;
         run_damage(seed, &mut tally).map_err(failure)?;
     }
     Ok(tally)
 }
 
-/// The list of calls of this seed.
-fn run_list(seed: u64, tally: &mut Tally) -> Result<(), String> {
+/// The list of this seed that empties a full card.
+fn run_emptying(seed: u64, tally: &mut Tally) -> Result<(), String> {
+    let (script, cases) = emptying::script(seed);
+    let left = run_list(script, tally).map_err(|what| format!("emptying, {what}"))?;
+    emptying::nothing_left(&left)?;
+    add_all(&mut tally.emptying, cases);
+    Ok(())
+}
+
+/// Runs a list of calls; gives the layout that it leaves.
+fn run_list(script: Script, tally: &mut Tally) -> Result<Layout, String> {
     let Script {
         mut sample,
         requests,
-    } = script::script(seed, CALLS);
+    } = script;
     accepted(&sample)?;
     let pages = u64::from(sample.layout.pages);
     let mut ledger = Ledger::new(pages, tables_of(&sample.layout));
@@ -81,7 +96,7 @@ fn run_list(seed: u64, tally: &mut Tally) -> Result<(), String> {
             }
         }
     }
-    Ok(())
+    Ok(sample.layout)
 }
 
 /// The image is well-formed and says its layout.

@@ -181,9 +181,16 @@ impl Knobs {
 /// A well-formed image of the kind wanted.
 pub fn sample(random: &mut Random, knobs: &Knobs) -> Sample {
     let layout = layout(random, knobs);
-    let mut image = garbage(random, layout.pages as usize);
-    encode::layout(&mut image, &layout);
-    Sample { image, layout }
+    over_garbage(random, layout)
+}
+
+/// A well-formed image of the kind wanted with no page free.
+pub fn full(random: &mut Random, knobs: &Knobs) -> Sample {
+    let most = random.within(knobs.pages.clone());
+    let (meta, tables) = draft_tables(random, knobs, most - 1);
+    let pages = used(&meta, &tables);
+    let layout = number(random, &knobs.span_sizes, pages, meta, tables);
+    over_garbage(random, layout)
 }
 
 /// The layout of an image of the kind wanted.
@@ -233,7 +240,12 @@ pub fn full_spans(
     let tables = vec![table];
     let pages = used(&meta, &tables) + free;
     let layout = number(random, &[span_size], pages, meta, tables);
-    let mut image = garbage(random, pages);
+    over_garbage(random, layout)
+}
+
+/// The image of a layout, with garbage in its unused bytes.
+fn over_garbage(random: &mut Random, layout: Layout) -> Sample {
+    let mut image = garbage(random, layout.pages as usize);
     encode::layout(&mut image, &layout);
     Sample { image, layout }
 }

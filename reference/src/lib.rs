@@ -12,6 +12,7 @@ pub mod creating;
 pub mod damage;
 pub mod edit;
 pub mod emit;
+pub mod emptying;
 pub mod encode;
 pub mod entries;
 pub mod events;

@@ -4,7 +4,7 @@ use reference::compare::programs::{Program, TWIN};
 use reference::compare::{self, tally};
 use reference::fuzz::{self, Failure, Tally};
 use reference::rule::Rule;
-use reference::{bench, emit, events, explain, program, samples, theorems as text};
+use reference::{bench, emit, emptying, events, explain, program, samples, theorems as text};
 use std::env;
 use std::fs;
 use std::path::Path;
@@ -14,7 +14,7 @@ const USAGE: &str = "usage:
   reference check FILE          the program's line for this image
   reference explain FILE        the layout, or every broken rule
   reference emit DIR SEED N     N images with the program's lines
-  reference fuzz SEED N         N lists of calls and N damaged images
+  reference fuzz SEED N         N lists of calls, N that empty full cards, N damaged images
   reference compare P SEED N    N images and N lists of calls against P, twin or library
   reference bench               times of the twin and the library, in Markdown
   reference samples DIR         the sample cards with the program's lines
@@ -71,6 +71,8 @@ fn fuzz(seed: &str, count: &str) -> Result<(), String> {
     let tally = fuzz::fuzz(seed, count).map_err(|failure| again("fuzz", failure))?;
     print!("{}", tally::calls_table(&tally.calls));
     print_events(&tally);
+    let cases = tally::cases_table(&tally.emptying, &emptying::all());
+    print!("{cases}");
     print_damage(&tally);
     println!("{count} passed, 0 failed");
     Ok(())
@@ -85,10 +87,11 @@ fn compare(other: &str, seed: &str, count: &str) -> Result<(), String> {
     tally.add(compare::lists(&other, seed, count).map_err(failed)?);
     tally.add(compare::long_lists(&other, seed, count.div_ceil(100)).map_err(failed)?);
     tally.add(compare::read_lists(&other, seed, count).map_err(failed)?);
-    for (lists, cases) in compare::AIMED {
-        let aimed = lists(&other, seed, count).map_err(failed)?;
-        print!("{}", tally::cases_table(&aimed.cases, &cases()));
-        tally.add(aimed);
+    for aimed in compare::AIMED {
+        let count = count.div_ceil(aimed.one_in);
+        let reached = (aimed.compare)(&other, seed, count).map_err(failed)?;
+        print!("{}", tally::cases_table(&reached.cases, &(aimed.cases)()));
+        tally.add(reached);
     }
     print!("{}", tally::images_table(&tally));
     print!("{}", tally::calls_table(&tally.calls));

@@ -31,13 +31,13 @@ pub fn held(cases: &[(&str, bool)]) -> Vec<String> {
     held.map(|(case, _)| (*case).to_owned()).collect()
 }
 
-/// A list of `calls` calls on an image, and the cases that it reaches. Each call is chosen with what
-/// the calls before it leave.
+/// A list of `calls` calls on an image, and the cases that it reaches. Each call is chosen, with its
+/// buffers, by what the calls before it leave.
 pub fn list(
     random: &mut Random,
     sample: Sample,
     calls: usize,
-    choose: impl Fn(&mut Random, &Layout, &Ledger, usize) -> Call,
+    choose: impl Fn(&mut Random, &Layout, &Ledger, usize) -> Request,
     mut reached: impl FnMut(&Made<'_>) -> Vec<String>,
 ) -> (Script, Cases) {
     let mut cases = Cases::new();
@@ -47,8 +47,7 @@ pub fn list(
     let mut ledger = Ledger::new(u64::from(layout.pages), tables_of(&layout));
     let mut requests = Vec::new();
     for step in 0..calls {
-        let call = choose(random, &layout, &ledger, step);
-        let request = script::with_buffers(random, &ledger, call);
+        let request = choose(random, &layout, &ledger, step);
         let (mut scratch, mut answer) = request.buffers();
         let number = request.run(&mut image, &mut scratch, &mut answer).number;
         ledger.feed(&request, number == 10);
@@ -90,16 +89,15 @@ fn has_garbage(sample: &Sample) -> bool {
 pub fn mostly(
     aim: fn(&mut Random, &Layout) -> Option<Call>,
     without: &[CallKind],
-) -> impl Fn(&mut Random, &Layout, &Ledger, usize) -> Call + '_ {
+) -> impl Fn(&mut Random, &Layout, &Ledger, usize) -> Request + '_ {
     move |random, layout, ledger, _| {
         let any = match random.percent(60) {
             true => None,
             false => Some(script::call(random, ledger.tables(), Trend::Mixed)),
         };
         let wanted = any.filter(|call| !without.contains(&call.kind()));
-        wanted
-            .or_else(|| aim(random, layout))
-            .unwrap_or(Call::Check)
+        let call = wanted.or_else(|| aim(random, layout));
+        script::with_buffers(random, ledger, call.unwrap_or(Call::Check))
     }
 }
 

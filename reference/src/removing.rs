@@ -132,7 +132,7 @@ pub fn remove(random: &mut Random, layout: &Layout) -> Option<Call> {
 }
 
 /// What a remove reaches.
-fn of_remove(made: &Made<'_>) -> Vec<String> {
+pub fn of_remove(made: &Made<'_>) -> Vec<String> {
     let Call::Remove { name, key } = made.call else {
         return Vec::new();
     };

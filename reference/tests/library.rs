@@ -12,10 +12,11 @@ use common::{assert_reached, in_two};
 use reference::compare::cases::Source;
 use reference::compare::tally::{calls_table, images_table, Tally};
 use reference::compare::{
-    create_lists, images, lengths, lists, long_lists, present_lengths, put_lists, read_lists,
-    remove_lists, Compare,
+    create_lists, empty_lists, images, lengths, lists, long_lists, present_lengths, put_lists,
+    read_lists, remove_lists, Compare,
 };
 use reference::creating;
+use reference::emptying;
 use reference::library::LIBRARY;
 use reference::putting;
 use reference::reading::LONGEST;
@@ -35,6 +36,8 @@ const READ_LISTS: u64 = 20_000;
 const PUT_LISTS: u64 = 20_000;
 /// How many lists of removes are run.
 const REMOVE_LISTS: u64 = 20_000;
+/// How many full cards are emptied.
+const FULL_CARDS: u64 = 4_000;
 /// How many lists are run that create tables and then use them.
 const CREATE_LISTS: u64 = 50_000;
 /// How many lengths keys have that are put and read, up to the greatest.
@@ -105,6 +108,16 @@ fn removes_have_the_same_outcome() {
     println!("{}", calls_table(&tally.calls));
     assert_answered(&tally, CallKind::Remove, &[0, 2, 4, 6, 8], 100);
     assert_reached(&tally, &removing::all());
+}
+
+#[test]
+fn full_cards_are_emptied_alike() {
+    let tally = compared(1, FULL_CARDS, empty_lists);
+    println!("{}", calls_table(&tally.calls));
+    let refused = tally.calls.keys().find(|(_, number)| *number != 0);
+    assert_eq!(refused, None);
+    assert_answered(&tally, CallKind::Remove, &[0], 10 * FULL_CARDS);
+    assert_reached(&tally, &emptying::all());
 }
 
 #[test]

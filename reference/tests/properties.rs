@@ -7,6 +7,7 @@ use reference::audit::{audit, reach};
 use reference::calls::Answer;
 use reference::check::check;
 use reference::damage;
+use reference::emptying;
 use reference::encode;
 use reference::entries::{self, Entry, Place};
 use reference::events;
@@ -20,7 +21,7 @@ use reference::random::Random;
 use reference::request::{Call, CallKind, Request};
 use reference::rule::Rule;
 use reference::script::{script, script_on, Script};
-use std::collections::BTreeMap;
+use std::collections::{BTreeMap, BTreeSet};
 
 #[test]
 fn lists_of_calls_and_damaged_images() {
@@ -33,6 +34,9 @@ fn lists_of_calls_and_damaged_images() {
     for event in events::ALL {
         let count = tally.events.get(event).copied().unwrap_or(0);
         assert!(count > 0, "{event}");
+    }
+    for case in emptying::all() {
+        assert!(tally.emptying.contains_key(&case), "{case}");
     }
     let numbers: [(CallKind, &[u32]); 6] = [
         (CallKind::Check, &[0, 1, 2, 3]),
@@ -224,6 +228,32 @@ fn a_script_is_the_same_each_time() {
         assert_eq!(one.requests.len(), 15);
     }
     assert_eq!(Random::new(0).next_u64(), 0xe220_a839_7b1d_cdaf);
+}
+
+/// A card to empty has no page free, and each of its keys is removed once.
+#[test]
+fn a_card_to_empty_is_full() {
+    for seed in 0..300 {
+        let (script, _) = emptying::script(seed);
+        let Sample { image, layout } = &script.sample;
+        accepted(&script.sample).expect("well-formed");
+        assert!(layout.free.is_empty());
+        assert_eq!(image[16..20], [0; 4]);
+        let removes = script.requests.iter().filter_map(|request| {
+            let name = request.call.name()?.to_vec();
+            match &request.call {
+                Call::Remove { key, .. } => Some((name, key.clone())),
+                _ => None,
+            }
+        });
+        let removes: Vec<_> = removes.collect();
+        let tables = tables_of(layout);
+        let there = |(name, key): &(Vec<u8>, Vec<u8>)| tables[name].contains_key(key);
+        assert!(removes.iter().all(there));
+        let once: BTreeSet<_> = removes.iter().collect();
+        assert_eq!((once.len(), removes.len()), (layout.keys(), layout.keys()));
+        assert!(emptying::nothing_left(layout).is_err());
+    }
 }
 
 #[test]

@@ -145,8 +145,8 @@ fn every_field_of_small_images_set_anew() {
 
 #[test]
 fn aimed_lists_have_the_same_outcome() {
-    for (lists, cases) in AIMED {
-        let tally = in_two(&TWIN, 1, 10_000, lists);
-        assert_reached(&tally, &cases());
+    for aimed in AIMED {
+        let tally = in_two(&TWIN, 1, 10_000 / aimed.one_in, aimed.compare);
+        assert_reached(&tally, &(aimed.cases)());
     }
 }

@@ -8,8 +8,10 @@ pub mod tally;
 use crate::calls::Answer;
 use crate::check::check;
 use crate::creating;
+use crate::emptying;
 use crate::fuzz::{Failure, CALLS};
 use crate::generate::Knobs;
+use crate::layout::Layout;
 use crate::ledger::{tables_of, Ledger, Said};
 use crate::page::pages_of;
 use crate::putting;
@@ -25,14 +27,38 @@ use tally::{add_all, Called, Tally};
 /// A comparison of both programs on `count` seeds from `seed` on.
 pub type Compare = fn(&Program, u64, u64) -> Result<Tally, Failure>;
 
-/// All cases of a kind of aimed list.
-pub type AllCases = fn() -> Vec<String>;
+/// Aimed lists of one kind.
+pub struct Aimed {
+    /// Compares both programs on them.
+    pub compare: Compare,
+    /// The cases that enough of them reach.
+    pub cases: fn() -> Vec<String>,
+    /// One list is run where so many of another kind are: some have more calls.
+    pub one_in: u64,
+}
 
-/// The comparisons on aimed lists, each with the cases that enough lists reach.
-pub const AIMED: [(Compare, AllCases); 3] = [
-    (put_lists, putting::all),
-    (remove_lists, removing::all),
-    (create_lists, creating::all),
+/// The comparisons on aimed lists.
+pub const AIMED: [Aimed; 4] = [
+    Aimed {
+        compare: put_lists,
+        cases: putting::all,
+        one_in: 1,
+    },
+    Aimed {
+        compare: remove_lists,
+        cases: removing::all,
+        one_in: 1,
+    },
+    Aimed {
+        compare: create_lists,
+        cases: creating::all,
+        one_in: 1,
+    },
+    Aimed {
+        compare: empty_lists,
+        cases: emptying::all,
+        one_in: 4,
+    },
 ];
 
 /// Checks `count` images by both programs, for the seeds from `seed` on, and makes another call on
@@ -133,6 +159,17 @@ pub fn create_lists(program: &Program, seed: u64, count: u64) -> Result<Tally, F
     aimed_lists(program, seeds(seed, count), creating::script)
 }
 
+/// Runs `count` lists that empty a full card by both programs, for the seeds from `seed` on, and
+/// counts what they reach.
+pub fn empty_lists(program: &Program, seed: u64, count: u64) -> Result<Tally, Failure> {
+    ended_lists(
+        program,
+        seeds(seed, count),
+        emptying::script,
+        emptying::nothing_left,
+    )
+}
+
 /// `count` seeds from the first one on.
 fn seeds(first: u64, count: u64) -> impl Iterator<Item = u64> {
     (0..count).map(move |step| first.wrapping_add(step))
@@ -153,18 +190,29 @@ fn aimed_lists(
     seeds: impl Iterator<Item = u64>,
     script: impl Fn(u64) -> (Script, Cases),
 ) -> Result<Tally, Failure> {
+    ended_lists(program, seeds, script, |_| Ok(()))
+}
+
+/// The same, with what has to hold of the layout that each list leaves.
+fn ended_lists(
+    program: &Program,
+    seeds: impl Iterator<Item = u64>,
+    script: impl Fn(u64) -> (Script, Cases),
+    holds: impl Fn(&Layout) -> Result<(), String>,
+) -> Result<Tally, Failure> {
     let mut tally = Tally::default();
     for seed in seeds {
         let (script, cases) = script(seed);
-        let failure = |what| Failure { seed, what };
-        list(program, &script, &mut tally.calls).map_err(failure)?;
+        let left = list(program, &script, &mut tally.calls);
+        let outcome = left.and_then(|layout| holds(&layout));
+        outcome.map_err(|what| Failure { seed, what })?;
         add_all(&mut tally.cases, cases);
     }
     Ok(tally)
 }
 
-/// Runs one list of calls by both programs and feeds the ledger.
-pub fn list(program: &Program, script: &Script, called: &mut Called) -> Result<(), String> {
+/// Runs one list of calls by both programs and feeds the ledger; gives the layout that it leaves.
+pub fn list(program: &Program, script: &Script, called: &mut Called) -> Result<Layout, String> {
     let layout = &script.sample.layout;
     let mut ledger = Ledger::new(u64::from(layout.pages), tables_of(layout));
     let mut image = script.sample.image.clone();
@@ -180,7 +228,7 @@ pub fn list(program: &Program, script: &Script, called: &mut Called) -> Result<(
     }
     let layout = check(&image).map_err(|broken| format!("after the list: {}", broken[0]))?;
     match tables_of(&layout) == *ledger.tables() {
-        true => Ok(()),
+        true => Ok(layout),
         false => Err("the tables after the list are not the ledger's".to_owned()),
     }
 }

@@ -33,7 +33,7 @@ impl Tally {
 }
 
 /// Adds what one map counts to another.
-pub(super) fn add_all<K: Ord>(counts: &mut BTreeMap<K, u64>, more: BTreeMap<K, u64>) {
+pub(crate) fn add_all<K: Ord>(counts: &mut BTreeMap<K, u64>, more: BTreeMap<K, u64>) {
     for (key, count) in more {
         *counts.entry(key).or_default() += count;
     }
@@ -93,6 +93,6 @@ pub fn calls_table(called: &Called) -> String {
 /// How often each of these cases was reached, as a table.
 pub fn cases_table(reached: &Cases, cases: &[String]) -> String {
     let count = |case: &String| reached.get(case).copied().unwrap_or(0);
-    let line = |case: &String| format!("{case:56}{:>8}\n", count(case));
+    let line = |case: &String| format!("{case:64}{:>8}\n", count(case));
     cases.iter().map(line).collect()
 }
