@@ -4,7 +4,8 @@ use reference::calls::Answer;
 use reference::check::check;
 use reference::compare::programs::{Program, RemoveCall, TWIN};
 use reference::compare::{
-    create_lists, images, lengths, lists, present_lengths, put_lists, read_lists, remove_lists,
+    create_lists, empty_lists, images, lengths, lists, present_lengths, put_lists, read_lists,
+    remove_lists,
 };
 use reference::entries::MAX_LENGTH;
 use reference::page::{bytes_mut, listed_number, tower, write_u16, write_u32};
@@ -166,6 +167,16 @@ fn an_exact_buffer_that_is_refused() {
     assert!(found.contains("number: 9"), "{found}");
 }
 
+/// The refusal with 10.
+const NO_ROOM: Answer = Answer {
+    number: 10,
+    length: 0,
+    pages: 0,
+    tables: 0,
+    keys: 0,
+    free: 0,
+};
+
 /// Makes a change by the twin, but refuses with 10 where it would take the last free page.
 fn unless_last(
     image: &mut [u8],
@@ -177,10 +188,7 @@ fn unless_last(
     let answer = change(&mut copy, scratch);
     let left = twin::check(&copy, scratch).free;
     if answer.number == 0 && left == 0 && had > 0 {
-        return Answer {
-            number: 10,
-            ..Answer::default()
-        };
+        return NO_ROOM;
     }
     image.copy_from_slice(&copy);
     answer
@@ -208,6 +216,75 @@ fn the_last_pages_that_no_create_takes() {
     let create = Some(create as _);
     let found = create_lists(&Program { create, ..TWIN }, 1, 300).expect_err("a difference");
     assert!(found.what.contains("number: 10"), "{}", found.what);
+}
+
+/// The answer, but done where there was no room; the image is left as it was.
+fn silent(answer: Answer) -> Answer {
+    match answer {
+        NO_ROOM => Answer::default(),
+        _ => answer,
+    }
+}
+
+#[test]
+fn a_put_that_does_not_say_that_there_is_no_room() {
+    let put = |image: &mut [u8], scratch: &mut [u8], name: &[u8], key: &[u8], value: &[u8]| {
+        silent(twin::put(image, scratch, name, key, value))
+    };
+    let put = Some(put as _);
+    assert_found(Program { put, ..TWIN }, "expected Answer { number: 10");
+}
+
+#[test]
+fn a_create_that_does_not_say_that_there_is_no_room() {
+    let create = |image: &mut [u8], scratch: &mut [u8], name: &[u8]| {
+        silent(twin::create(image, scratch, name))
+    };
+    let create = Some(create as _);
+    assert_found(Program { create, ..TWIN }, "expected Answer { number: 10");
+}
+
+/// What is found of a wrong remove on lists that empty full cards.
+fn found_emptying(remove: RemoveCall) -> String {
+    let remove = Some(remove);
+    let found = empty_lists(&Program { remove, ..TWIN }, 1, 100);
+    found.expect_err("a difference").what
+}
+
+#[test]
+fn a_full_card_from_which_no_key_is_removed() {
+    let found =
+        found_emptying(
+            |image, scratch, name, key| match twin::check(image, scratch).free {
+                0 => NO_ROOM,
+                _ => twin::remove(image, scratch, name, key),
+            },
+        );
+    let first = "call 0, a remove: Answer { number: 10";
+    assert!(found.starts_with(first), "{found}");
+}
+
+/// Pages that the span has are not counted as room.
+#[test]
+fn a_remove_that_wants_the_continuation_pages_anew() {
+    let found = found_emptying(|image, scratch, name, key| {
+        let free = twin::check(image, scratch).free;
+        let mut copy = image.to_vec();
+        let answer = twin::remove(&mut copy, scratch, name, key);
+        if answer.number == 0 && continuations(&copy, name, key) > free {
+            return NO_ROOM;
+        }
+        image.copy_from_slice(&copy);
+        answer
+    });
+    assert!(found.contains("a remove: Answer { number: 10"), "{found}");
+}
+
+/// How many continuation pages the target span of a key has.
+fn continuations(image: &[u8], name: &[u8], key: &[u8]) -> u64 {
+    let layout = check(image).expect("well-formed");
+    let table = &layout.tables[layout.find(name).expect("a table")].1;
+    table.spans[table.target(key)].continuations.len() as u64
 }
 
 /// What is found of a wrong remove on lists of removes.
