@@ -86,7 +86,7 @@ fn images_of_the_benchmark() {
 }
 
 /// Rows of the benchmark, each with an event that its call has to show.
-const ROWS: [(&str, &str); 8] = [
+const ROWS: [(&str, &str); 9] = [
     ("put, new key, split", "split"),
     ("remove 65,535 bytes", "page given back"),
     ("remove, first span emptied", "first span emptied"),
@@ -97,6 +97,7 @@ const ROWS: [(&str, &str); 8] = [
         "tower of height 2 or more unlinked",
     ),
     ("remove, last span unlinked", "tower unlinked"),
+    ("remove, no page free", "page given back became block"),
     ("create, metaindex split", "split of the metaindex"),
 ];
 
@@ -108,8 +109,11 @@ fn calls_of_the_benchmark_do_what_their_rows_say() {
         let case = of_row.next().expect("a case of every row");
         let outcome = REFERENCE.run(&case.image, &case.request).expect("a call");
         let layout = |image: &[u8]| check(image).expect("well-formed");
-        let events = events::events(&layout(&case.image), &layout(&outcome.image));
+        let before = layout(&case.image);
+        let events = events::events(&before, &layout(&outcome.image));
         assert!(events.contains(&event), "{row}");
+        let is_full = before.free.is_empty();
+        assert_eq!(row.contains("no page free"), is_full, "{row}");
         assert!(
             !row.contains("without tower") || !events.contains(&"tower unlinked"),
             "{row}"

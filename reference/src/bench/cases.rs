@@ -205,6 +205,7 @@ fn crowded_calls(_: &Table) -> Vec<(&'static str, Call)> {
     vec![
         ("put, no room", put(missing(0), MAX_LENGTH)),
         ("create, no room", create(b"another")),
+        ("remove, no page free", remove(cards::small_key(0))),
     ]
 }
 
