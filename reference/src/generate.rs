@@ -186,11 +186,16 @@ pub fn sample(random: &mut Random, knobs: &Knobs) -> Sample {
 
 /// A well-formed image of the kind wanted with no page free.
 pub fn full(random: &mut Random, knobs: &Knobs) -> Sample {
+    let layout = full_layout(random, knobs);
+    over_garbage(random, layout)
+}
+
+/// The layout of an image of the kind wanted with no page free.
+pub fn full_layout(random: &mut Random, knobs: &Knobs) -> Layout {
     let most = random.within(knobs.pages.clone());
     let (meta, tables) = draft_tables(random, knobs, most - 1);
     let pages = used(&meta, &tables);
-    let layout = number(random, &knobs.span_sizes, pages, meta, tables);
-    over_garbage(random, layout)
+    number(random, &knobs.span_sizes, pages, meta, tables)
 }
 
 /// The layout of an image of the kind wanted.

@@ -25,29 +25,41 @@ freeMark";
 /// The definitions that the checker opens to read an image.
 const IMAGE: &str = "be16 be32 be64 word32 reached lensAt entryEnd nameRule keyRule superMark skipMark towerMark spanMark contMark blockMark freeMark";
 
+/// How often the image has no page free and the call is a remove of a key that is there.
+const FULL_EVERY: u64 = 4;
+
 /// A module of theorems on `count` images with a call each.
 pub fn module(seed: u64, count: u64) -> String {
     let mut random = Random::new(seed);
     let mut text = HEAD.to_owned();
     for number in 1..=count {
-        let (image, layout) = sample(&mut random);
-        let call = call(&mut random, &layout);
+        let is_full = number % FULL_EVERY == 0;
+        let (image, layout) = sample(&mut random, is_full);
+        let call = if is_full {
+            remove(&mut random, &layout)
+        } else {
+            call(&mut random, &layout)
+        };
         let room = *random.pick(&[0, 1, 2, 5000]);
         claims(&mut text, number, &image, &layout, call, room);
     }
     text
 }
 
-/// A small image whose unused bytes and values are the same within a page or value, so that they
-/// take few words to write down.
-fn sample(random: &mut Random) -> (Vec<u8>, Layout) {
+/// A small image, with no page free or any number of them, whose unused bytes and values are the
+/// same within a page or value, so that they take few words to write down.
+fn sample(random: &mut Random, is_full: bool) -> (Vec<u8>, Layout) {
     let knobs = Knobs {
         pages: 10..=30,
         tables: 1..=2,
         spans: 1..=4,
         ..Knobs::tiny()
     };
-    let mut layout = generate::layout(random, &knobs);
+    let mut layout = if is_full {
+        generate::full_layout(random, &knobs)
+    } else {
+        generate::layout(random, &knobs)
+    };
     for (_, table) in &mut layout.tables {
         for span in &mut table.spans {
             for entry in &mut span.entries {
@@ -83,6 +95,22 @@ fn call(random: &mut Random, layout: &Layout) -> Call {
             let value = vec![random.below(256) as u8; length];
             Call::Put { name, key, value }
         }
+    }
+}
+
+/// A remove of one of the keys, or a check where there are none.
+fn remove(random: &mut Random, layout: &Layout) -> Call {
+    let mut calls = Vec::new();
+    for (name, table) in &layout.tables {
+        calls.extend(table.entries().map(|entry| (name, &entry.key)));
+    }
+    if calls.is_empty() {
+        return Call::Check;
+    }
+    let (name, key) = *random.pick(&calls);
+    Call::Remove {
+        name: name.clone(),
+        key: key.clone(),
     }
 }
 
