@@ -38,51 +38,11 @@ const FULL: [&str; 13] = [
     "all tables empty and no page free",
 ];
 
-/// The cases of `removing` that have to come on a full card as well.
-const REMOVING: [&str; 36] = [
-    "only key of a span removed",
-    "first key of a span removed",
-    "middle key of a span removed",
-    "last key of a span removed",
-    "key removed from a span of 2",
-    "key removed from a span of 3",
-    "key removed from a span of 128",
-    "key removed behind an empty first span",
-    "span rewritten on as many pages",
-    "span rewritten on one page fewer",
-    "span rewritten on 2 or more pages fewer",
-    "span rewritten that keeps continuation pages",
-    "span rewritten without continuation pages",
-    "first span emptied, others follow",
-    "first span emptied, no other follows",
-    "first span emptied, with continuation pages",
-    "span unlinked, with a tower",
-    "span unlinked, without a tower",
-    "span unlinked, the last",
-    "span unlinked, another",
-    "span unlinked, with a tower and continuation pages",
-    "span unlinked, without a tower, with continuation pages",
-    "span unlinked, with 2 or more continuation pages",
-    "tower unlinked, as high as the head",
-    "tower unlinked, lower than the head",
-    "tower unlinked, the only one",
-    "tower unlinked, the last of several",
-    "tower unlinked, between others",
-    "tower unlinked, by several towers before it",
-    "tower unlinked, the head's max height 1",
-    "tower unlinked, the head's max height 252",
-    "no page given back",
-    "given back with no block",
-    "the first of several given pages became a block",
-    "a continuation page became a block",
-    "a span became a block",
-];
-
 /// All cases.
 pub fn all() -> Vec<String> {
     let fixed = FIXED.iter().map(|case| (*case).to_owned());
     let full = reached::with_page_ends(&FULL, STILL_FULL.into_iter().map(still_full));
-    let removing = REMOVING.iter().map(|case| (*case).to_owned());
+    let removing = removing::ON_FULL_TOO.iter().map(|case| (*case).to_owned());
     let full = full.into_iter().chain(removing);
     fixed.chain(full.map(|case| on_full(&case))).collect()
 }

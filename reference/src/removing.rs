@@ -21,9 +21,8 @@ const FEW: usize = 3;
 /// The heights of towers that have to be unlinked.
 const HEIGHTS: [usize; 8] = [1, 2, 3, 4, 5, 6, 12, MAX_NUMBERS];
 
-/// The cases, but for the ends of pages and the heights of towers.
-const FIXED: [&str; 45] = [
-    reached::GARBAGE,
+/// The cases, but for the ends of pages and the heights of towers, that come on full cards too.
+pub const ON_FULL_TOO: [&str; 36] = [
     "only key of a span removed",
     "first key of a span removed",
     "middle key of a span removed",
@@ -54,25 +53,32 @@ const FIXED: [&str; 45] = [
     "tower unlinked, between others",
     "tower unlinked, by several towers before it",
     "tower unlinked, the head's max height 1",
-    "tower unlinked, the head's max height 3",
     "tower unlinked, the head's max height 252",
     "no page given back",
     "given back with no block",
+    "the first of several given pages became a block",
+    "a continuation page became a block",
+    "a span became a block",
+];
+
+/// The other cases, but for the ends of pages and the heights of towers.
+const FIXED: [&str; 9] = [
+    reached::GARBAGE,
+    "tower unlinked, the head's max height 3",
     "given back to an empty block",
     "given back to a block with room for one",
     "given back to a full block",
     "given back with several blocks",
-    "the first of several given pages became a block",
     "a given page between others became a block",
     "the last of several given pages became a block",
-    "a continuation page became a block",
-    "a span became a block",
     "a tower became a block",
 ];
 
 /// All cases.
 pub fn all() -> Vec<String> {
-    reached::with_page_ends(&FIXED, HEIGHTS.into_iter().map(unlinked))
+    let on_full_too = ON_FULL_TOO.iter().map(|case| (*case).to_owned());
+    let heights = HEIGHTS.into_iter().map(unlinked);
+    reached::with_page_ends(&FIXED, on_full_too.chain(heights))
 }
 
 /// The case of a tower of this height that goes with its span.
