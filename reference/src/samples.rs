@@ -35,6 +35,7 @@ pub fn samples() -> Vec<Sample> {
             cameras.clone(),
             "pages 32 tables 1 keys 30 free 11",
         ),
+        sample("full", full(), "pages 16 tables 1 keys 22 free 0"),
         sample("empty-file", Vec::new(), "refused 1"),
         sample("ring-of-spans", ring_of_spans(&cameras), "refused 3"),
         sample("cut-in-a-page", cameras[..20_000].to_vec(), "refused 1"),
@@ -103,14 +104,24 @@ fn lens(pages: u32) -> Vec<u8> {
 /// A table "lens" with the records of thirty cameras, on as many pages as the program reads.
 fn cameras() -> Vec<u8> {
     let mut image = lens((program::MOST / PAGE) as u32);
-    let mut scratch = vec![0; image.len()];
     for camera in 1..=30 {
-        let key = format!("cam{camera:02}").into_bytes();
-        let value = record(camera);
-        let answer = calls::put(&mut image, &mut scratch, LENS, &key, &value);
-        assert_eq!(answer.number, 0, "there is room for a camera");
+        assert_eq!(put(&mut image, camera), 0, "there is room for a camera");
     }
     image
+}
+
+/// A table "lens" with the records of as many cameras as there is room for.
+fn full() -> Vec<u8> {
+    let mut image = lens(16);
+    (1..).find(|&camera| put(&mut image, camera) == 10);
+    image
+}
+
+/// Puts the record of a camera; gives the answer's number.
+fn put(image: &mut [u8], camera: u32) -> u32 {
+    let mut scratch = vec![0; image.len()];
+    let key = format!("cam{camera:02}").into_bytes();
+    calls::put(image, &mut scratch, LENS, &key, &record(camera)).number
 }
 
 /// A small calibration record: focal lengths and centre, none, two or four numbers of a model,

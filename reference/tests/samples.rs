@@ -1,5 +1,6 @@
 //! The sample cards: their lines, and that the files are those that the command makes.
 
+use reference::calls;
 use reference::program::line;
 use reference::samples::samples;
 use std::fs;
@@ -18,6 +19,21 @@ fn only_one_sample_is_longer_than_the_program_reads() {
     let mut long = samples.iter().filter(|sample| sample.card.len() > 32_768);
     assert_eq!(long.next().map(|sample| sample.card.len()), Some(32_769));
     assert!(long.next().is_none());
+}
+
+#[test]
+fn a_full_card_has_no_room_but_every_camera_can_be_removed() {
+    let full = samples().into_iter().find(|sample| sample.name == "full");
+    let mut card = full.expect("the full card").card;
+    let mut scratch = vec![0; card.len()];
+    let put = calls::put(&mut card, &mut scratch, b"lens", b"cam99", &[0; 1024]);
+    assert_eq!(put.number, 10);
+    for camera in (1..=22).rev() {
+        let key = format!("cam{camera:02}");
+        let remove = calls::remove(&mut card, &mut scratch, b"lens", key.as_bytes());
+        assert_eq!(remove.number, 0, "{key}");
+    }
+    assert_eq!(line(&card), "pages 16 tables 1 keys 0 free 9");
 }
 
 #[test]
