@@ -126,7 +126,7 @@ lowest (x ∷ xs) = cond (x .0) (some (x .1)) (lowest xs)
 unfoldable pub refused : Ledger → Op → (room : ℕ) → Option Refusal
 refused l op room = lowest (rows l op room)
 
--- row 10 is for put and create; a remove never wants more pages than its span has
+-- row 10 is for put and create; a remove never wants more pages than its span has (laws: `RemoveWants`)
 abbrev pub mayLack : Op → Bool
 mayLack check = false
 mayLack (get n k) = false
