@@ -5,7 +5,7 @@ use reference::check::check;
 use reference::compare::programs::{Program, RemoveCall, TWIN};
 use reference::compare::{
     create_lists, empty_lists, images, lengths, lists, present_lengths, put_lists, read_lists,
-    remove_lists,
+    remove_lists, Compare,
 };
 use reference::entries::MAX_LENGTH;
 use reference::page::{bytes_mut, listed_number, tower, write_u16, write_u32};
@@ -244,11 +244,16 @@ fn a_create_that_does_not_say_that_there_is_no_room() {
     assert_found(Program { create, ..TWIN }, "expected Answer { number: 10");
 }
 
+/// What is found of a wrong remove on so many lists of a kind.
+fn found_of_remove(lists: Compare, count: u64, remove: RemoveCall) -> String {
+    let remove = Some(remove);
+    let found = lists(&Program { remove, ..TWIN }, 1, count);
+    found.expect_err("a difference").what
+}
+
 /// What is found of a wrong remove on lists that empty full cards.
 fn found_emptying(remove: RemoveCall) -> String {
-    let remove = Some(remove);
-    let found = empty_lists(&Program { remove, ..TWIN }, 1, 100);
-    found.expect_err("a difference").what
+    found_of_remove(empty_lists, 100, remove)
 }
 
 #[test]
@@ -289,9 +294,7 @@ fn continuations(image: &[u8], name: &[u8], key: &[u8]) -> u64 {
 
 /// What is found of a wrong remove on lists of removes.
 fn found_removing(remove: RemoveCall) -> String {
-    let remove = Some(remove);
-    let found = remove_lists(&Program { remove, ..TWIN }, 1, 600);
-    found.expect_err("a difference").what
+    found_of_remove(remove_lists, 600, remove)
 }
 
 #[test]

@@ -37,6 +37,7 @@ planOf L (remove n k) = onTable L n (λ t. removePlan L n t k)
 planOf L (next n k) = none
 planOf L (create n) = some (createPlan L n)
 
+-- what is done, if anything, wants more pages than there are
 abbrev pub lacking : Layout → Option Plan → Bool
 lacking L none = false
 lacking L (some p) = lacks L p

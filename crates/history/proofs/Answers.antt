@@ -1,8 +1,8 @@
 -- What no call of a run answers.
 use Prim.Native.Nat.{ℕ, _*_}
-use mathlib.Core.Path.{_≡_, refl, sym, _∙_, subst}
+use mathlib.Core.Path.{_≡_, refl, ap, sym, _∙_, subst}
 use mathlib.Core.Logic.{_≢_}
-use mathlib.Core.Bool.{Bool, true, false, not, cond, _&&_, true≢false}
+use mathlib.Core.Bool.{Bool, true, false, not, cond, _&&_, true≢false, and-false}
 use mathlib.Core.List.{List, [], _∷_}
 use mathlib.Core.Option.{Option, none, some}
 use lib.ListN.{length}
@@ -101,12 +101,9 @@ never-one-or-three = in-each-run NotOneOrThree not-said
 not-ten : {l : Ledger} {img : List ℕ} {e : Event} (f : Followed l img e) → noRoom (f .holds .layout) (e .op) ≡ false → e .reply .number ≢ 10
 not-ten {e = e} f h =
     let M : Layout = f .holds .layout in
-    differs 10 (e .reply .number) (f .ten ∙ not-due (enough M (length (e .scratch))) (not (there (refused (ledgerOf M) (e .op) (length (e .buffer))))) (noRoom M (e .op)) h)
-  where
-    not-due : (a b c : Bool) → c ≡ false → (a && (b && c)) ≡ false
-    not-due true true c h = h
-    not-due true false c h = refl
-    not-due false b c h = refl
+    let long : Bool = enough M (length (e .scratch)) in
+    let allowed : Bool = not (there (refused (ledgerOf M) (e .op) (length (e .buffer)))) in
+    differs 10 (e .reply .number) (f .ten ∙ ap (λ (b : Bool). long && (allowed && b)) h ∙ ap (λ (b : Bool). long && b) (and-false allowed) ∙ and-false long)
 
 pub never-for-room : NeverForRoom
 unfolding NeverForRoom

@@ -4,7 +4,7 @@ use native.Mathlib.Omega.{arith}
 use mathlib.Core.Path.{_≡_, refl, ap, sym, _∙_, subst}
 use mathlib.Core.List.{List, [], _∷_}
 use mathlib.Core.Option.{Option, none, some}
-use mathlib.Core.Bool.{Bool, true, false, not, cond, _&&_}
+use mathlib.Core.Bool.{Bool, true, false, not, cond, _&&_, and-true, and-false}
 use lib.ListN.{length}
 use lib.Dec.{T, eqb, leb, ltb}
 use borrow.Author.Tests.{lt-ltb, le-ltb, le-leb, lt-leb, eq-eqb}
@@ -19,6 +19,7 @@ use Rattle.blockfile.specs.Answers.{Outcome, refuse, outcomeIf, outcomeOn, plan
 use Rattle.blockfile.specs.Calls.{lengthOk, cleared, answered, Called, bad-length, short-scratch, malformed, accepted, Keeps}
 use Rattle.blockfile.specs.Ledger.{Fed, stepOn, step, tablesAfter}
 use Rattle.blockfile.specs.History.{Event, Holds, tenDue, enough, saidTo, Followed, Remembered, Demand3}
+use Rattle.blockfile.proofs.Bools.{so, holds, and-both}
 use Rattle.laws.proofs.Unique.{unique}
 
 -- the fact that demand 3 rests on
@@ -62,14 +63,6 @@ done-zero l F (put n k v) = refl
 done-zero l F (remove n k) = refl
 done-zero l F (next n k) = refl
 done-zero l F (create n) = refl
-
-fed-false : (b : Bool) → (b && false) ≡ false
-fed-false true = refl
-fed-false false = refl
-
-fed-true : (a b : Bool) → (a && b) ≡ true → (a && true) ≡ true
-fed-true true b h = refl
-fed-true false b h = h
 
 -- ---- An outcome on the layout is the ledger's step
 
@@ -127,11 +120,11 @@ module _ (after : Preserved) where
           → Agrees L op s room none
           (cond b (refuse NoRoom) (record { reply = doneReply (ledgerOf L) (freeCount (L .free)) op; bytes = handed (ledgerOf L) op; writes = planned L (planOf L op) }))
       go true k =
-          let f : (mayLack op && true) ≡ true = fed-true (mayLack op) (lacking L (planOf L op)) k in
+          let f : (mayLack op && true) ≡ true = and-true (mayLack op) ∙ so (mayLack op) (and-both (mayLack op) (lacking L (planOf L op)) (holds (noRoom L op) k) .0) in
           record { reply = rw f; bytes = rw f; ten = sym k; holds = λ img w. rw f (unchanged L img w) }
       go false k =
           let z : eqb (doneReply (ledgerOf L) (freeCount (L .free)) op .number) 10 ≡ false = ap (λ (n : ℕ). eqb n 10) (done-zero (ledgerOf L) (freeCount (L .free)) op) in
-          let d : (mayLack op && eqb (doneReply (ledgerOf L) (freeCount (L .free)) op .number) 10) ≡ false = ap (λ (b : Bool). mayLack op && b) z ∙ fed-false (mayLack op) in
+          let d : (mayLack op && eqb (doneReply (ledgerOf L) (freeCount (L .free)) op .number) 10) ≡ false = ap (λ (b : Bool). mayLack op && b) z ∙ and-false (mayLack op) in
           record { reply = rw d; bytes = rw d; ten = z ∙ sym k; holds = λ img w. rw d (after img L op room w e k) }
 
   module _ (img : List ℕ) (L : Layout) (w : WellFormed img L) (op : Op) where

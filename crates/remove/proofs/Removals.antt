@@ -92,7 +92,7 @@ module _ {img : List ℕ} {root : ℕ} {L : Layout} {name : List ℕ} {t : Table
       one-fewer = omega (arith, ap length erased, length-spliced (takenOut (s .index)) (coming [] []) es fits)
 
       -- never a split, and no pages but the span's own
-      pub leave-of : LeaveOf img root page (s .index) (keyRule name) t (L .free) i
+      leave-of : LeaveOf img root page (s .index) (keyRule name) t (L .free) i
       leave-of =
           record {
             rewrite = record {
@@ -113,7 +113,7 @@ module _ {img : List ℕ} {root : ℕ} {L : Layout} {name : List ℕ} {t : Table
 
         module _ (n : (x .prev ≡ 0 → ⊥) × (x .size ≡ 1)) where
           -- it is not the first
-          pub later : (j : ℕ) × (i ≡ suc j)
+          later : (j : ℕ) × (i ≡ suc j)
           later = go i (links-of .prev)
             where
               go : (m : ℕ) → x .prev ≡ hereAt t m .prev → (j : ℕ) × (m ≡ suc j)
@@ -123,7 +123,7 @@ module _ {img : List ℕ} {root : ℕ} {L : Layout} {name : List ℕ} {t : Table
           none-left : erase k es ≡ []
           none-left = no-entries (erase k es) (omega (arith, one-fewer, links-of .size, n .1))
 
-          pub unlink-of : UnlinkOf img root page x (keyRule name) t (L .free) (later .0)
+          unlink-of : UnlinkOf img root page x (keyRule name) t (L .free) (later .0)
           unlink-of =
               record {
                 gone = record {
