@@ -5,7 +5,7 @@
 //! staged in the scratch, which is zero, and copied to the image whole; the scratch is zero again
 //! afterwards. A remove takes no page, so it stages what is left without a plan.
 
-use super::entry::Entries;
+use super::entry::{Entries, Slices};
 use super::free;
 use super::page::{link, page, page_mut, set_mark, set_u16, set_u32, u16_at, u32_at, Page};
 use super::plan::{change_counts, neighbours, size_of, write_span, write_tower, Plan};
@@ -67,8 +67,8 @@ pub fn remove(
     table: Table,
     key: &[u8],
 ) -> Result<(), Refusal> {
-    let target = table.target(pages, key).span;
-    let spot = search::spot(pages, target, key);
+    let target = table.target::<Slices>(pages, key).span;
+    let spot = search::spot::<Slices>(pages, target, key);
     if spot.entry.is_none() {
         return Err(Refusal::NoSuchKey);
     }
@@ -127,7 +127,7 @@ fn write_new_table(pages: &mut [Page], root: u32, span: u32, head: u32) {
 /// Unlinks a span with this one key that is not the first, its tower (if any) too, and gives
 /// their pages back: continuation pages in chain order, span, tower.
 fn unlink(pages: &mut [Page], table: Table, key: &[u8], number: u32) {
-    let path = table.before(pages, key);
+    let path = table.before::<Slices>(pages, key);
     let next = u32_at(page(pages, number), span::NEXT);
     set_u32(page_mut(pages, path.span), span::NEXT, next);
     if next != 0 {

@@ -126,6 +126,44 @@ const MASKS: [u64; 9] = {
     masks
 };
 
+/// How the twin compares the bytes of keys that it cannot order by their prefixes. It is a parameter,
+/// so that the time of another comparison can be set beside that of the twin's own, and so that a
+/// test can show that a wrong one is found out.
+pub trait Order {
+    /// The order of two pieces of the same length.
+    fn pieces(one: &[u8], other: &[u8]) -> Ordering;
+
+    /// The order of two keys of these lengths that agree as far as both go.
+    fn lengths(one: usize, other: usize) -> Ordering {
+        one.cmp(&other)
+    }
+}
+
+/// The twin's own comparison: that of slices.
+pub struct Slices;
+
+impl Order for Slices {
+    #[inline(always)]
+    fn pieces(one: &[u8], other: &[u8]) -> Ordering {
+        one.cmp(other)
+    }
+}
+
+/// A comparison by a plain loop, byte by byte.
+pub struct ByteLoop;
+
+impl Order for ByteLoop {
+    #[inline(always)]
+    fn pieces(one: &[u8], other: &[u8]) -> Ordering {
+        for (one, other) in one.iter().zip(other) {
+            if one != other {
+                return one.cmp(other);
+            }
+        }
+        Ordering::Equal
+    }
+}
+
 /// A key with its prefix: the first eight bytes as a number, as if zeros followed the key. Where
 /// two keys differ in it, it has their order.
 #[derive(Clone, Copy, Debug)]
@@ -155,22 +193,22 @@ impl Key {
 
     /// Whether the key is below another: by unsigned bytes, a proper prefix first.
     #[inline(always)]
-    pub fn is_below(&self, pages: &[Page], other: &Key) -> bool {
+    pub fn is_below<O: Order>(&self, pages: &[Page], other: &Key) -> bool {
         self.prefix < other.prefix
-            || (self.prefix == other.prefix && is_below(pages, self.run, other.run))
+            || (self.prefix == other.prefix && is_below::<O>(pages, self.run, other.run))
     }
 }
 
 /// Whether one run is below another.
 #[inline(never)]
-fn is_below(pages: &[Page], mut one: Run, mut other: Run) -> bool {
+fn is_below<O: Order>(pages: &[Page], mut one: Run, mut other: Run) -> bool {
     loop {
         let (here, there) = (one.part(pages), other.part(pages));
         let count = here.len().min(there.len());
         if count == 0 {
-            return one.length < other.length;
+            return O::lengths(one.length, other.length).is_lt();
         }
-        let order = here[..count].cmp(&there[..count]);
+        let order = O::pieces(&here[..count], &there[..count]);
         if order.is_ne() {
             return order.is_lt();
         }
@@ -250,16 +288,17 @@ impl Run {
     }
 
     /// Orders the run against lent bytes.
-    pub fn cmp_bytes(self, pages: &[Page], bytes: &[u8]) -> Ordering {
-        let mut rest = bytes;
-        for part in self.parts(pages) {
-            let (here, later) = rest.split_at(part.len().min(rest.len()));
-            let order = part.cmp(here);
+    pub fn cmp_bytes<O: Order>(self, pages: &[Page], bytes: &[u8]) -> Ordering {
+        let length = self.length.min(bytes.len());
+        let mut rest = &bytes[..length];
+        for part in (Run { length, ..self }).parts(pages) {
+            let (here, later) = rest.split_at(part.len());
+            let order = O::pieces(part, here);
             if order.is_ne() {
                 return order;
             }
             rest = later;
         }
-        0.cmp(&rest.len())
+        O::lengths(self.length, bytes.len())
     }
 }

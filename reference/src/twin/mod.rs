@@ -19,13 +19,19 @@ mod verify;
 use crate::calls::{Answer, Refusal};
 use crate::entries::MAX_LENGTH;
 use entry::Run;
+pub use entry::{ByteLoop, Order, Slices};
 use page::Page;
 use search::Table;
 use verify::{legal_name, Counts};
 
 /// Checks an image.
 pub fn check(image: &[u8], scratch: &mut [u8]) -> Answer {
-    let answer = open(image, scratch).map(|(pages, counts)| Answer {
+    check_by::<Slices>(image, scratch)
+}
+
+/// Checks an image, with this comparison of keys.
+pub fn check_by<O: Order>(image: &[u8], scratch: &mut [u8]) -> Answer {
+    let answer = open::<O>(image, scratch).map(|(pages, counts)| Answer {
         pages: pages.len() as u64,
         tables: counts.tables,
         keys: counts.keys,
@@ -37,40 +43,62 @@ pub fn check(image: &[u8], scratch: &mut [u8]) -> Answer {
 
 /// The value of a key.
 pub fn get(image: &[u8], scratch: &mut [u8], name: &[u8], key: &[u8], into: &mut [u8]) -> Answer {
-    try_get(image, scratch, name, key, into).unwrap_or_else(Answer::from)
+    get_by::<Slices>(image, scratch, name, key, into)
 }
 
-fn try_get(
+/// The value of a key, with this comparison of keys.
+pub fn get_by<O: Order>(
+    image: &[u8],
+    scratch: &mut [u8],
+    name: &[u8],
+    key: &[u8],
+    into: &mut [u8],
+) -> Answer {
+    try_get::<O>(image, scratch, name, key, into).unwrap_or_else(Answer::from)
+}
+
+fn try_get<O: Order>(
     image: &[u8],
     scratch: &mut [u8],
     name: &[u8],
     key: &[u8],
     into: &mut [u8],
 ) -> Result<Answer, Refusal> {
-    let (pages, _) = open(image, scratch)?;
+    let (pages, _) = open::<O>(image, scratch)?;
     require(legal_name(name) && legal_key(key), Refusal::NameOrKey)?;
-    let table = Table::named(pages, name).ok_or(Refusal::NoSuchTable)?;
-    let entry = table.entry(pages, key).ok_or(Refusal::NoSuchKey)?;
+    let table = Table::named::<O>(pages, name).ok_or(Refusal::NoSuchTable)?;
+    let entry = table.entry::<O>(pages, key).ok_or(Refusal::NoSuchKey)?;
     hand_over(pages, entry.value, into)
 }
 
 /// The smallest key above the one asked.
 pub fn next(image: &[u8], scratch: &mut [u8], name: &[u8], key: &[u8], into: &mut [u8]) -> Answer {
-    try_next(image, scratch, name, key, into).unwrap_or_else(Answer::from)
+    next_by::<Slices>(image, scratch, name, key, into)
 }
 
-fn try_next(
+/// The smallest key above the one asked, with this comparison of keys.
+pub fn next_by<O: Order>(
+    image: &[u8],
+    scratch: &mut [u8],
+    name: &[u8],
+    key: &[u8],
+    into: &mut [u8],
+) -> Answer {
+    try_next::<O>(image, scratch, name, key, into).unwrap_or_else(Answer::from)
+}
+
+fn try_next<O: Order>(
     image: &[u8],
     scratch: &mut [u8],
     name: &[u8],
     key: &[u8],
     into: &mut [u8],
 ) -> Result<Answer, Refusal> {
-    let (pages, _) = open(image, scratch)?;
+    let (pages, _) = open::<O>(image, scratch)?;
     let legal = legal_name(name) && key.len() <= MAX_LENGTH;
     require(legal, Refusal::NameOrKey)?;
-    let table = Table::named(pages, name).ok_or(Refusal::NoSuchTable)?;
-    let above = table.above(pages, key).ok_or(Refusal::NoSuchKey)?;
+    let table = Table::named::<O>(pages, name).ok_or(Refusal::NoSuchTable)?;
+    let above = table.above::<O>(pages, key).ok_or(Refusal::NoSuchKey)?;
     hand_over(pages, above, into)
 }
 
@@ -86,10 +114,10 @@ fn try_put(
     key: &[u8],
     value: &[u8],
 ) -> Result<(), Refusal> {
-    let (pages, counts) = open(image, scratch)?;
+    let (pages, counts) = open::<Slices>(image, scratch)?;
     require(legal_name(name) && legal_key(key), Refusal::NameOrKey)?;
     require(value.len() <= MAX_LENGTH, Refusal::ValueLength)?;
-    let table = Table::named(pages, name).ok_or(Refusal::NoSuchTable)?;
+    let table = Table::named::<Slices>(pages, name).ok_or(Refusal::NoSuchTable)?;
     let (pages, staged) = lent(image, scratch);
     edit::put(pages, staged, counts.free, table, key, value)
 }
@@ -105,9 +133,9 @@ fn try_remove(
     name: &[u8],
     key: &[u8],
 ) -> Result<(), Refusal> {
-    let (pages, _) = open(image, scratch)?;
+    let (pages, _) = open::<Slices>(image, scratch)?;
     require(legal_name(name) && legal_key(key), Refusal::NameOrKey)?;
-    let table = Table::named(pages, name).ok_or(Refusal::NoSuchTable)?;
+    let table = Table::named::<Slices>(pages, name).ok_or(Refusal::NoSuchTable)?;
     let (pages, staged) = lent(image, scratch);
     edit::remove(pages, staged, table, key)
 }
@@ -118,19 +146,22 @@ pub fn create(image: &mut [u8], scratch: &mut [u8], name: &[u8]) -> Answer {
 }
 
 fn try_create(image: &mut [u8], scratch: &mut [u8], name: &[u8]) -> Result<(), Refusal> {
-    let (_, counts) = open(image, scratch)?;
+    let (_, counts) = open::<Slices>(image, scratch)?;
     require(legal_name(name), Refusal::NameOrKey)?;
     let (pages, staged) = lent(image, scratch);
     edit::create(pages, staged, counts.free, name)
 }
 
 /// Refusals 1 to 3; the scratch is zero over the length of the image but with 1 and 2.
-fn open<'a>(image: &'a [u8], scratch: &mut [u8]) -> Result<(&'a [Page], Counts), Refusal> {
+fn open<'a, O: Order>(
+    image: &'a [u8],
+    scratch: &mut [u8],
+) -> Result<(&'a [Page], Counts), Refusal> {
     let pages = page::pages(image).ok_or(Refusal::ImageLength)?;
     let scratch = scratch.get_mut(..image.len());
     let scratch = scratch.ok_or(Refusal::ScratchShort)?;
     let (heads, behind) = page::heads(scratch, pages.len());
-    let counts = verify::verify(pages, heads, behind);
+    let counts = verify::verify::<O>(pages, heads, behind);
     scratch.fill(0);
     let counts = counts.ok_or(Refusal::NotWellFormed)?;
     Ok((pages, counts))

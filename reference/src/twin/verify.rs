@@ -5,7 +5,7 @@
 //! once, in its head, and of its other bytes nothing is read before: so the pass ends on any bytes,
 //! in time linear in the image.
 
-use super::entry::{self, Entries, Key, Place};
+use super::entry::{self, Entries, Key, Order, Place};
 use super::page::{bears, page, u16_at, u32_at, Behind, Head, Page, BEHIND, HEAD};
 use crate::page::{
     block, listed_number, skip_list, span, superblock, tower, Kind, MAX_NUMBERS, METAINDEX, PAGE,
@@ -22,7 +22,11 @@ pub struct Counts {
 
 /// The counts of a well-formed image. `heads` and `behind` are lent, one for each page, and left in
 /// any state.
-pub fn verify(pages: &[Page], heads: &mut [Head], behind: &mut [Behind]) -> Option<Counts> {
+pub fn verify<O: Order>(
+    pages: &[Page],
+    heads: &mut [Head],
+    behind: &mut [Behind],
+) -> Option<Counts> {
     for ((head, behind), page) in heads.iter_mut().zip(&mut *behind).zip(pages) {
         head.copy_from_slice(&page[..HEAD]);
         behind.copy_from_slice(&page[HEAD..HEAD + BEHIND]);
@@ -35,8 +39,8 @@ pub fn verify(pages: &[Page], heads: &mut [Head], behind: &mut [Behind]) -> Opti
     };
     let first_block = walk.superblock()?;
     let free = walk.free_list(first_block)?;
-    let tables = walk.table(METAINDEX)?;
-    let keys = walk.tables()?;
+    let tables = walk.table::<O>(METAINDEX)?;
+    let keys = walk.tables::<O>()?;
     holds(walk.claimed == pages.len())?;
     Some(Counts {
         tables: u64::from(tables),
@@ -108,6 +112,7 @@ impl<'a> Walk<'a> {
     }
 
     /// The chain of free-list blocks; gives F.
+    #[inline]
     fn free_list(&mut self, first: u32) -> Option<u64> {
         let before = self.claimed;
         let mut number = first;
@@ -125,7 +130,7 @@ impl<'a> Walk<'a> {
     }
 
     /// The tables that the metaindex, walked before, names; gives their keys.
-    fn tables(&mut self) -> Option<u64> {
+    fn tables<O: Order>(&mut self) -> Option<u64> {
         let pages = self.pages;
         let mut keys = 0;
         let mut number = u32_at(page(pages, METAINDEX), skip_list::FIRST_SPAN);
@@ -135,7 +140,7 @@ impl<'a> Walk<'a> {
                 holds(entry.key.parts(pages).all(legal_bytes))?;
                 let mut root = [0; 4];
                 entry.value.copy_to(pages, &mut root);
-                keys += u64::from(self.table(u32::from_be_bytes(root))?);
+                keys += u64::from(self.table::<O>(u32::from_be_bytes(root))?);
             }
             number = u32_at(page(pages, number), span::NEXT);
         }
@@ -143,7 +148,7 @@ impl<'a> Walk<'a> {
     }
 
     /// A table, or the metaindex, from its skip-list page; gives its keys.
-    fn table(&mut self, root: u32) -> Option<u32> {
+    fn table<O: Order>(&mut self, root: u32) -> Option<u32> {
         self.claim(root, Kind::SkipList)?;
         let list = page(self.pages, root);
         let span_size = u16_at(list, skip_list::SPAN_SIZE);
@@ -156,7 +161,7 @@ impl<'a> Walk<'a> {
         loop {
             let head = self.claim(number, Kind::Span)?;
             holds(u32_at(&head, span::PREVIOUS) == previous)?;
-            let size = self.span(number, span_size, &mut last)?;
+            let size = self.span::<O>(number, span_size, &mut last)?;
             if spans > 0 {
                 holds(size > 0)?;
                 self.tower(number, &mut levels)?;
@@ -177,7 +182,7 @@ impl<'a> Walk<'a> {
 
     /// The entries of a span, which is claimed, and its continuation pages; gives its size. The
     /// keys have to rise from the last one met, so none of them is empty.
-    fn span(&mut self, number: u32, span_size: u16, last: &mut Key) -> Option<u16> {
+    fn span<O: Order>(&mut self, number: u32, span_size: u16, last: &mut Key) -> Option<u16> {
         let pages = self.pages;
         let sizes = self.behind(number);
         let size = u16_at(sizes, span::SIZE - HEAD);
@@ -189,7 +194,7 @@ impl<'a> Walk<'a> {
                 Some(read) => read,
                 None => self.entry_over_pages(at)?,
             };
-            holds(before.is_below(pages, &key))?;
+            holds(before.is_below::<O>(pages, &key))?;
             (before, at) = (key, after);
         }
         *last = before;
@@ -226,6 +231,7 @@ impl<'a> Walk<'a> {
     }
 
     /// The head of a table with this first span.
+    #[inline]
     fn head(&mut self, number: u32, first: u32) -> Option<Levels> {
         let head = self.claim(number, Kind::Tower)?;
         holds(u32_at(&head, tower::SPAN) == first)?;
