@@ -26,6 +26,7 @@ pub mod legal;
 #[cfg(feature = "library")]
 pub mod library;
 pub mod page;
+pub mod pairs;
 pub mod program;
 pub mod putting;
 pub mod random;

@@ -15,7 +15,7 @@ const USAGE: &str = "usage:
   reference explain FILE        the layout, or every broken rule
   reference emit DIR SEED N     N images with the program's lines
   reference fuzz SEED N         N lists of calls, N that empty full cards, N damaged images
-  reference compare P SEED N    N images and N lists of calls against P, twin or library
+  reference compare P SEED N    N images, lists of calls, pairs of keys against P, twin or library
   reference bench               times of the twin and the library, in Markdown
   reference samples DIR         the sample cards with the program's lines
   reference theorems SEED N     N images with a call each, as theorems of the trusted text";

@@ -48,9 +48,13 @@ impl Random {
 
     /// Fills the bytes at random.
     pub fn fill(&mut self, bytes: &mut [u8]) {
-        for part in bytes.chunks_mut(8) {
+        let (words, rest) = bytes.as_chunks_mut();
+        for word in words {
+            *word = self.next_u64().to_le_bytes();
+        }
+        if !rest.is_empty() {
             let word = self.next_u64().to_le_bytes();
-            part.copy_from_slice(&word[..part.len()]);
+            rest.copy_from_slice(&word[..rest.len()]);
         }
     }
 

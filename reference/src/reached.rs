@@ -71,9 +71,10 @@ fn after(request: &Request, number: u32, image: &[u8]) -> Option<Layout> {
     changed.then(|| check(image).expect("well-formed after every call"))
 }
 
-fn count(cases: &mut Cases, reached: Vec<String>) {
-    for case in reached {
-        *cases.entry(case).or_default() += 1;
+/// Counts each of these once more.
+pub(crate) fn count<K: Ord>(counts: &mut BTreeMap<K, u64>, reached: impl IntoIterator<Item = K>) {
+    for one in reached {
+        *counts.entry(one).or_default() += 1;
     }
 }
 

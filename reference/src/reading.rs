@@ -86,12 +86,14 @@ pub fn present(length: usize) -> Script {
     reads_on(&mut random, sample, calls)
 }
 
-fn get(name: &[u8], key: &[u8]) -> Call {
+/// A get.
+pub fn get(name: &[u8], key: &[u8]) -> Call {
     let (name, key) = (name.to_vec(), key.to_vec());
     Call::Get { name, key }
 }
 
-fn next(name: &[u8], key: &[u8]) -> Call {
+/// A next.
+pub fn next(name: &[u8], key: &[u8]) -> Call {
     let (name, key) = (name.to_vec(), key.to_vec());
     Call::Next { name, key }
 }

@@ -2,14 +2,15 @@
 
 use reference::calls::Answer;
 use reference::check::check;
-use reference::compare::programs::{Program, RemoveCall, TWIN};
+use reference::compare::programs::{reading_twin, Program, RemoveCall, TWIN};
 use reference::compare::{
-    create_lists, empty_lists, images, lengths, lists, present_lengths, put_lists, read_lists,
-    remove_lists, Compare,
+    create_lists, empty_lists, images, key_pairs, lengths, lists, present_lengths, put_lists,
+    read_lists, remove_lists, Compare,
 };
 use reference::entries::MAX_LENGTH;
 use reference::page::{bytes_mut, listed_number, tower, write_u16, write_u32};
-use reference::twin;
+use reference::twin::{self, Order, Slices};
+use std::cmp::Ordering;
 
 /// What is found on some images and lists.
 fn found(program: &Program) -> Result<(), String> {
@@ -349,4 +350,95 @@ fn pages_given_back_in_another_order() {
         answer
     });
     assert!(found.contains("image"), "{found}");
+}
+
+/// On how many pairs of keys a wrong comparison has to be found out, of more than 200,000.
+const FEW_PAIRS: u64 = 2_000;
+
+/// Whether a wrong comparison of keys is found out in check, in get and in next, each alone.
+fn assert_order_found<O: Order>() {
+    let check = reading_twin::<O, Slices>("wrong in check").check;
+    let Program { get, next, .. } = reading_twin::<Slices, O>("wrong in search");
+    let programs = [
+        ("a check: ", Program { check, ..TWIN }),
+        ("a get: ", Program { get, ..TWIN }),
+        ("a next: ", Program { next, ..TWIN }),
+    ];
+    for (call, program) in programs {
+        let found = key_pairs(&program, 0, FEW_PAIRS).expect_err("a difference");
+        assert!(found.what.starts_with(call), "{}", found.what);
+    }
+}
+
+/// Compares words of eight bytes, and then the bytes that are left over.
+fn by_words(one: &[u8], other: &[u8], word: fn([u8; 8]) -> u64) -> (Ordering, Ordering) {
+    let ((one, one_rest), (other, other_rest)) = (one.as_chunks(), other.as_chunks());
+    let numbers = |words: &[[u8; 8]]| words.iter().copied().map(word).collect::<Vec<u64>>();
+    (numbers(one).cmp(&numbers(other)), one_rest.cmp(other_rest))
+}
+
+/// Eight bytes at a time, as it has to be done.
+struct Words;
+
+impl Order for Words {
+    fn pieces(one: &[u8], other: &[u8]) -> Ordering {
+        let (words, left_over) = by_words(one, other, u64::from_be_bytes);
+        words.then(left_over)
+    }
+}
+
+/// The bytes of a word taken in the other order.
+struct OtherOrder;
+
+impl Order for OtherOrder {
+    fn pieces(one: &[u8], other: &[u8]) -> Ordering {
+        let (words, left_over) = by_words(one, other, u64::from_le_bytes);
+        words.then(left_over)
+    }
+}
+
+/// The bytes that are left over behind whole words not compared.
+struct WholeWords;
+
+impl Order for WholeWords {
+    fn pieces(one: &[u8], other: &[u8]) -> Ordering {
+        by_words(one, other, u64::from_be_bytes).0
+    }
+}
+
+/// A proper prefix first only where it is more than seven bytes shorter.
+struct ShortByWords;
+
+impl Order for ShortByWords {
+    fn pieces(one: &[u8], other: &[u8]) -> Ordering {
+        Slices::pieces(one, other)
+    }
+
+    fn lengths(one: usize, other: usize) -> Ordering {
+        match one.abs_diff(other) {
+            0..=7 => Ordering::Equal,
+            _ => one.cmp(&other),
+        }
+    }
+}
+
+#[test]
+fn keys_compared_by_words() {
+    let program = reading_twin::<Words, Words>("words");
+    key_pairs(&program, 0, FEW_PAIRS).expect("no difference");
+}
+
+#[test]
+fn words_in_the_other_byte_order() {
+    assert_order_found::<OtherOrder>();
+}
+
+#[test]
+fn bytes_left_over_that_are_not_compared() {
+    assert_order_found::<WholeWords>();
+}
+
+#[test]
+fn a_prefix_that_is_little_shorter_and_not_first() {
+    assert_order_found::<ShortByWords>();
 }

@@ -8,16 +8,17 @@
 
 mod common;
 
-use common::{assert_reached, in_two};
+use common::{assert_covered, assert_reached, in_two};
 use reference::compare::cases::Source;
 use reference::compare::tally::{calls_table, images_table, Tally};
 use reference::compare::{
-    create_lists, empty_lists, images, lengths, lists, long_lists, present_lengths, put_lists,
-    read_lists, remove_lists, Compare,
+    create_lists, empty_lists, images, key_pairs, lengths, lists, long_lists, present_lengths,
+    put_lists, read_lists, remove_lists, Compare,
 };
 use reference::creating;
 use reference::emptying;
 use reference::library::LIBRARY;
+use reference::pairs::{neighbours, PAIRS};
 use reference::putting;
 use reference::reading::LONGEST;
 use reference::removing;
@@ -147,4 +148,15 @@ fn keys_of_many_lengths_are_found() {
     // all that were put; of the answer buffers one in four is short
     assert!(tally.calls[&(CallKind::Get, 0)] > PRESENT);
     assert!(tally.calls[&(CallKind::Next, 0)] > 2 * PRESENT);
+}
+
+#[test]
+fn pairs_of_keys_have_the_same_outcome() {
+    let tally = compared(0, PAIRS, key_pairs);
+    println!("{}", calls_table(&tally.calls));
+    assert_answered(&tally, CallKind::Check, &[0, 3], PAIRS / 2);
+    assert_answered(&tally, CallKind::Get, &[0, 8], PAIRS / 2);
+    assert_answered(&tally, CallKind::Next, &[0], PAIRS);
+    assert_reached(&tally, &neighbours::all());
+    assert_covered(&tally);
 }

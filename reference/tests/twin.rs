@@ -7,8 +7,8 @@ use reference::bench::cards::{self, Filling};
 use reference::bench::cases::call_cases;
 use reference::check::check;
 use reference::compare::cases::{case, Source};
-use reference::compare::programs::{Program, REFERENCE, TWIN};
-use reference::compare::{images, lists, long_lists, AIMED};
+use reference::compare::programs::{Program, BYTE_LOOP, REFERENCE, TWIN};
+use reference::compare::{images, key_pairs, lists, long_lists, AIMED};
 use reference::events;
 use reference::generate::{self, Knobs};
 use reference::page::write_u32;
@@ -148,9 +148,14 @@ fn every_field_of_small_images_set_anew() {
 }
 
 #[test]
-fn aimed_lists_have_the_same_outcome() {
+fn aimed_calls_have_the_same_outcome() {
     for aimed in AIMED {
         let tally = in_two(&TWIN, 1, 10_000 / aimed.one_in, aimed.compare);
         assert_reached(&tally, &(aimed.cases)());
     }
+}
+
+#[test]
+fn a_plain_loop_orders_keys_alike() {
+    key_pairs(&BYTE_LOOP, 0, 10_000).expect("no difference");
 }

@@ -14,12 +14,14 @@ use crate::generate::Knobs;
 use crate::layout::Layout;
 use crate::ledger::{tables_of, Ledger, Said};
 use crate::page::pages_of;
+use crate::pairs::neighbours::{self, Neighbours};
+use crate::pairs::{self, Card, Trial};
 use crate::putting;
 use crate::random::Random;
-use crate::reached::Cases;
+use crate::reached::{count, Cases};
 use crate::reading;
 use crate::removing;
-use crate::request::Request;
+use crate::request::{CallKind, Request};
 use crate::script::{self, Script};
 use programs::{Outcome, Program, REFERENCE};
 use tally::{add_all, Called, Tally};
@@ -27,18 +29,18 @@ use tally::{add_all, Called, Tally};
 /// A comparison of both programs on `count` seeds from `seed` on.
 pub type Compare = fn(&Program, u64, u64) -> Result<Tally, Failure>;
 
-/// Aimed lists of one kind.
+/// A comparison that is aimed at certain cases.
 pub struct Aimed {
-    /// Compares both programs on them.
+    /// Compares both programs.
     pub compare: Compare,
-    /// The cases that enough of them reach.
+    /// The cases that enough seeds reach.
     pub cases: fn() -> Vec<String>,
-    /// One list is run where so many of another kind are: some have more calls.
+    /// One seed is run where so many of another kind are: some have more calls.
     pub one_in: u64,
 }
 
-/// The comparisons on aimed lists.
-pub const AIMED: [Aimed; 4] = [
+/// The comparisons that are aimed at certain cases.
+pub const AIMED: [Aimed; 5] = [
     Aimed {
         compare: put_lists,
         cases: putting::all,
@@ -58,6 +60,11 @@ pub const AIMED: [Aimed; 4] = [
         compare: empty_lists,
         cases: emptying::all,
         one_in: 4,
+    },
+    Aimed {
+        compare: key_pairs,
+        cases: neighbours::all,
+        one_in: 1,
     },
 ];
 
@@ -170,6 +177,45 @@ pub fn empty_lists(program: &Program, seed: u64, count: u64) -> Result<Tally, Fa
     )
 }
 
+/// Makes the calls of `count` pairs of keys by both programs, from pair `first` on, and counts what
+/// they cover.
+pub fn key_pairs(program: &Program, first: u64, count: u64) -> Result<Tally, Failure> {
+    let mut tally = Tally::default();
+    let mut card = pairs::card();
+    for seed in seeds(first, count) {
+        let pair = pairs::pair(seed);
+        for trial in pair.trials() {
+            let outcome = self::trial(program, &mut card, trial, &mut tally);
+            outcome.map_err(|what| Failure {
+                seed,
+                what: format!("{what}, with {pair:?}"),
+            })?;
+        }
+    }
+    Ok(tally)
+}
+
+/// Makes one call with a pair of keys by both programs; counts it, and what a check covers.
+fn trial(
+    program: &Program,
+    card: &mut Card,
+    trial: Trial,
+    tally: &mut Tally,
+) -> Result<(), String> {
+    let kind = trial.request.call.kind();
+    let at = |what| format!("a {kind}: {what}");
+    let image = card.with(trial.entries);
+    let outcome = compare_call(program, image, &trial.request).map_err(at)?;
+    as_said(&outcome, &trial.said).map_err(at)?;
+    count(&mut tally.calls, [(kind, outcome.answer.number)]);
+    if kind == CallKind::Check {
+        let neighbours = Neighbours::of(card.entries());
+        count(&mut tally.cases, neighbours.cases());
+        count(&mut tally.pairs, neighbours.covered());
+    }
+    Ok(())
+}
+
 /// `count` seeds from the first one on.
 fn seeds(first: u64, count: u64) -> impl Iterator<Item = u64> {
     (0..count).map(move |step| first.wrapping_add(step))
@@ -242,7 +288,7 @@ fn compare_call(program: &Program, image: &[u8], request: &Request) -> Result<Ou
     }
 }
 
-/// Whether an outcome is what the ledger says.
+/// Whether an outcome is what is said of the call.
 fn as_said(outcome: &Outcome, said: &Said) -> Result<(), String> {
     let answer = Answer {
         number: said.number,
@@ -254,6 +300,6 @@ fn as_said(outcome: &Outcome, said: &Said) -> Result<(), String> {
     };
     match outcome.answer == answer && outcome.buffer.starts_with(&said.bytes) {
         true => Ok(()),
-        false => Err(format!("{:?}, but by the ledger {said:?}", outcome.answer)),
+        false => Err(format!("{:?}, but it has to be {said:?}", outcome.answer)),
     }
 }

@@ -3,7 +3,7 @@
 use crate::calls::{self, Answer};
 use crate::page::PAGE;
 use crate::request::{Call, Request};
-use crate::twin;
+use crate::twin::{self, ByteLoop, Order};
 
 /// Check.
 pub type CheckCall = fn(&[u8], &mut [u8]) -> Answer;
@@ -49,6 +49,22 @@ pub const TWIN: Program = Program {
     remove: Some(twin::remove),
     create: Some(twin::create),
 };
+
+/// The calls of the twin that only read, with one comparison of keys in check and another in search.
+pub const fn reading_twin<C: Order, S: Order>(name: &'static str) -> Program {
+    Program {
+        name,
+        check: twin::check_by::<C>,
+        get: Some(twin::get_by::<C, S>),
+        next: Some(twin::next_by::<C, S>),
+        put: None,
+        remove: None,
+        create: None,
+    }
+}
+
+/// The twin with a plain loop over the bytes of keys.
+pub const BYTE_LOOP: Program = reading_twin::<ByteLoop, ByteLoop>("byte loop");
 
 /// What a call leaves: its answer and all lent memory.
 #[derive(Clone, Debug, PartialEq, Eq)]

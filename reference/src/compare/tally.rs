@@ -1,6 +1,7 @@
 //! What was compared, and tables of it.
 
 use super::cases::Source;
+use crate::pairs::neighbours::Covered;
 use crate::reached::Cases;
 use crate::request::CallKind;
 use std::collections::BTreeMap;
@@ -18,8 +19,10 @@ pub struct Tally {
     /// Images by P, with 0 for a length that no image has.
     pub sizes: BTreeMap<u32, u64>,
     pub calls: Called,
-    /// What aimed lists reached.
+    /// The cases that were reached of those aimed at.
     pub cases: Cases,
+    /// What pairs of keys covered.
+    pub pairs: BTreeMap<Covered, u64>,
 }
 
 impl Tally {
@@ -29,6 +32,7 @@ impl Tally {
         add_all(&mut self.sizes, other.sizes);
         add_all(&mut self.calls, other.calls);
         add_all(&mut self.cases, other.cases);
+        add_all(&mut self.pairs, other.pairs);
     }
 }
 

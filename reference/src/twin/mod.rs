@@ -43,63 +43,56 @@ pub fn check_by<O: Order>(image: &[u8], scratch: &mut [u8]) -> Answer {
 
 /// The value of a key.
 pub fn get(image: &[u8], scratch: &mut [u8], name: &[u8], key: &[u8], into: &mut [u8]) -> Answer {
-    get_by::<Slices>(image, scratch, name, key, into)
+    get_by::<Slices, Slices>(image, scratch, name, key, into)
 }
 
-/// The value of a key, with this comparison of keys.
-pub fn get_by<O: Order>(
+/// The value of a key, with one comparison of keys in the check that it begins with and another in the
+/// search.
+pub fn get_by<C: Order, S: Order>(
     image: &[u8],
     scratch: &mut [u8],
     name: &[u8],
     key: &[u8],
     into: &mut [u8],
 ) -> Answer {
-    try_get::<O>(image, scratch, name, key, into).unwrap_or_else(Answer::from)
-}
-
-fn try_get<O: Order>(
-    image: &[u8],
-    scratch: &mut [u8],
-    name: &[u8],
-    key: &[u8],
-    into: &mut [u8],
-) -> Result<Answer, Refusal> {
-    let (pages, _) = open::<O>(image, scratch)?;
-    require(legal_name(name) && legal_key(key), Refusal::NameOrKey)?;
-    let table = Table::named::<O>(pages, name).ok_or(Refusal::NoSuchTable)?;
-    let entry = table.entry::<O>(pages, key).ok_or(Refusal::NoSuchKey)?;
-    hand_over(pages, entry.value, into)
+    let value = |pages: &[Page], table: Table| Some(table.entry::<S>(pages, key)?.value);
+    let read = read::<C, S>(image, scratch, name, legal_key(key), value, into);
+    read.unwrap_or_else(Answer::from)
 }
 
 /// The smallest key above the one asked.
 pub fn next(image: &[u8], scratch: &mut [u8], name: &[u8], key: &[u8], into: &mut [u8]) -> Answer {
-    next_by::<Slices>(image, scratch, name, key, into)
+    next_by::<Slices, Slices>(image, scratch, name, key, into)
 }
 
-/// The smallest key above the one asked, with this comparison of keys.
-pub fn next_by<O: Order>(
+/// The smallest key above the one asked, with comparisons of keys as in `get_by`.
+pub fn next_by<C: Order, S: Order>(
     image: &[u8],
     scratch: &mut [u8],
     name: &[u8],
     key: &[u8],
     into: &mut [u8],
 ) -> Answer {
-    try_next::<O>(image, scratch, name, key, into).unwrap_or_else(Answer::from)
+    let above = |pages: &[Page], table: Table| table.above::<S>(pages, key);
+    let legal_key = key.len() <= MAX_LENGTH;
+    let read = read::<C, S>(image, scratch, name, legal_key, above, into);
+    read.unwrap_or_else(Answer::from)
 }
 
-fn try_next<O: Order>(
+/// The answer of a get or a next: what `find` gives of the table of this name, if name and key are legal.
+fn read<C: Order, S: Order>(
     image: &[u8],
     scratch: &mut [u8],
     name: &[u8],
-    key: &[u8],
+    legal_key: bool,
+    find: impl Fn(&[Page], Table) -> Option<Run>,
     into: &mut [u8],
 ) -> Result<Answer, Refusal> {
-    let (pages, _) = open::<O>(image, scratch)?;
-    let legal = legal_name(name) && key.len() <= MAX_LENGTH;
-    require(legal, Refusal::NameOrKey)?;
-    let table = Table::named::<O>(pages, name).ok_or(Refusal::NoSuchTable)?;
-    let above = table.above::<O>(pages, key).ok_or(Refusal::NoSuchKey)?;
-    hand_over(pages, above, into)
+    let (pages, _) = open::<C>(image, scratch)?;
+    require(legal_name(name) && legal_key, Refusal::NameOrKey)?;
+    let table = Table::named::<S>(pages, name).ok_or(Refusal::NoSuchTable)?;
+    let found = find(pages, table).ok_or(Refusal::NoSuchKey)?;
+    hand_over(pages, found, into)
 }
 
 /// Puts a value under a key.

@@ -248,7 +248,7 @@ impl<'a> Walk<'a> {
 
     /// The tower of a span other than the first, if the next tower on the chain along entry 0 is
     /// its own.
-    #[inline]
+    #[inline(always)]
     fn tower(&mut self, span: u32, levels: &mut Levels) -> Option<()> {
         let number = levels.lowest;
         if number == 0 {

@@ -7,6 +7,7 @@ use reference::compare::programs::Program;
 use reference::compare::tally::{cases_table, Tally};
 use reference::compare::Compare;
 use reference::layout::{Layout, Table};
+use reference::pairs::neighbours::all_covered;
 use std::thread;
 
 /// Writes bytes at an offset of a page.
@@ -137,5 +138,14 @@ pub fn assert_reached(tally: &Tally, cases: &[String]) {
     println!("{}", cases_table(&tally.cases, cases));
     for case in cases {
         assert!(tally.cases.contains_key(case), "{case}");
+    }
+}
+
+/// Whether pairs of keys covered all that they have to.
+pub fn assert_covered(tally: &Tally) {
+    let all = all_covered();
+    println!("{} of {} covered", tally.pairs.len(), all.len());
+    for one in all {
+        assert!(tally.pairs.contains_key(&one), "{one:?}");
     }
 }
