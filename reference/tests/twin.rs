@@ -4,7 +4,7 @@ mod common;
 
 use common::{assert_reached, in_two};
 use reference::bench::cards::{self, Filling};
-use reference::bench::cases::call_cases;
+use reference::bench::cases::{call_cases, serial_cases};
 use reference::check::check;
 use reference::compare::cases::{case, Source};
 use reference::compare::programs::{Program, BYTE_LOOP, REFERENCE, TWIN};
@@ -82,6 +82,29 @@ fn images_of_the_benchmark() {
         for (name, image) in cards::hostile(pages) {
             assert_eq!(checked(&image), 3, "{name} {pages}");
         }
+    }
+}
+
+#[test]
+fn serial_numbers_of_the_benchmark() {
+    for filling in Filling::ALL {
+        let Filling::Serials(length) = filling else {
+            continue;
+        };
+        let keys = [0, 1, 99, 100, 500_000].map(|place| filling.entry(place).key);
+        assert!(keys.is_sorted() && keys.iter().all(|key| key.len() == length));
+        let half = keys.map(|key| key[..length / 2].to_vec());
+        assert!(half.iter().all(|one| *one == half[0]));
+    }
+    let cases = serial_cases();
+    assert_eq!(cases.len(), 20);
+    for case in cases {
+        let outcome = BYTE_LOOP.run(&case.image, &case.request).expect("a call");
+        assert_eq!(
+            outcome.answer.number, 0,
+            "{} {}",
+            case.call, case.image_name
+        );
     }
 }
 

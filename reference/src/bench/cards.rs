@@ -21,6 +21,8 @@ pub enum Filling {
     ManyTiny,
     /// Entries of 24 bytes, with keys of 16 bytes, of which the first eight are the same; 126 in a span.
     SharedPrefixes,
+    /// Serial numbers of this many bytes, of which the first half is the same for all; 126 in a span.
+    Serials(usize),
     /// Spans of two small entries, with the towers that puts make.
     SmallSpans,
     /// Spans of one small entry, with the towers that puts make.
@@ -41,11 +43,16 @@ pub enum Filling {
 
 impl Filling {
     /// All fillings.
-    pub const ALL: [Filling; 12] = [
+    pub const ALL: [Filling; 17] = [
         Filling::ManySmall,
         Filling::FullSpans,
         Filling::ManyTiny,
         Filling::SharedPrefixes,
+        Filling::Serials(16),
+        Filling::Serials(24),
+        Filling::Serials(32),
+        Filling::Serials(64),
+        Filling::Serials(200),
         Filling::SmallSpans,
         Filling::SingleKeys,
         Filling::FewLarge,
@@ -57,12 +64,13 @@ impl Filling {
     ];
 
     /// What the rows call it.
-    pub fn name(self) -> &'static str {
-        match self {
+    pub fn name(self) -> String {
+        let name = match self {
             Filling::ManySmall => "many small entries",
             Filling::FullSpans => "full spans",
             Filling::ManyTiny => "many tiny entries",
             Filling::SharedPrefixes => "shared prefixes",
+            Filling::Serials(length) => return format!("serial numbers of {length} bytes"),
             Filling::SmallSpans => "small spans",
             Filling::SingleKeys => "spans of one key",
             Filling::FewLarge => "few large entries",
@@ -71,7 +79,8 @@ impl Filling {
             Filling::Tables => "many tables",
             Filling::FullNames => "full metaindex",
             Filling::Free => "free pages",
-        }
+        };
+        name.to_owned()
     }
 
     /// Whether an image of this many pages has room for it.
@@ -84,6 +93,7 @@ impl Filling {
         let key = match self {
             Filling::ManyTiny => (place as u32).to_be_bytes()[1..].to_vec(),
             Filling::SharedPrefixes => behind(8, place),
+            Filling::Serials(length) => serial(length, place),
             Filling::LongKeys => behind(16_000, place),
             _ => small_key(place),
         };
@@ -100,7 +110,9 @@ impl Filling {
     /// else of the table.
     fn span_size(self) -> (u16, usize) {
         match self {
-            Filling::ManySmall | Filling::SharedPrefixes | Filling::Free => (128, 126),
+            Filling::ManySmall | Filling::SharedPrefixes | Filling::Serials(_) | Filling::Free => {
+                (128, 126)
+            }
             Filling::FullSpans => (126, 126),
             Filling::ManyTiny => (128, 128),
             Filling::SmallSpans => (4, 2),
@@ -147,6 +159,16 @@ pub fn small_key(place: usize) -> Vec<u8> {
 fn behind(count: usize, place: usize) -> Vec<u8> {
     let mut key = vec![b'k'; count];
     key.extend(small_key(place));
+    key
+}
+
+/// Key `place` as a serial number of this many bytes: the first half is the same for all, and the
+/// second is a number with zeros before it.
+fn serial(length: usize, place: usize) -> Vec<u8> {
+    let same = length / 2;
+    let digits = length - same;
+    let mut key = vec![b'S'; same];
+    key.extend(format!("{place:0digits$}").into_bytes());
     key
 }
 

@@ -23,7 +23,7 @@ const FILLINGS: [Filling; 8] = [
 /// One call on one image.
 pub struct Case {
     pub call: &'static str,
-    pub image_name: &'static str,
+    pub image_name: String,
     pub image: Vec<u8>,
     pub request: Request,
 }
@@ -39,13 +39,13 @@ pub fn check_cases() -> Vec<Case> {
     }
     for pages in SIZES.into_iter().skip(1) {
         for (name, image) in cards::hostile(pages) {
-            cases.push(case("check", name, image, Call::Check));
+            cases.push(case("check", name.to_owned(), image, Call::Check));
         }
     }
     cases
 }
 
-fn case(call: &'static str, image_name: &'static str, image: Vec<u8>, request: Call) -> Case {
+fn case(call: &'static str, image_name: String, image: Vec<u8>, request: Call) -> Case {
     let request = Request {
         call: request,
         scratch_length: image.len(),
@@ -65,13 +65,31 @@ pub fn call_cases() -> Vec<Case> {
     let mut cases = Vec::new();
     for pages in SIZES.into_iter().skip(1) {
         for (filling, free, calls) in CALLS {
-            let sample = cards::sample(filling, pages, pages - free);
-            for (name, call) in calls(filling.table(&sample.layout)) {
-                cases.push(case(name, filling.name(), sample.image.clone(), call));
-            }
+            cases.extend(cases_on(filling, pages, free, calls));
         }
     }
     cases
+}
+
+/// Checks of full images with serial numbers as keys, and gets of such keys.
+pub fn serial_cases() -> Vec<Case> {
+    let mut cases = Vec::new();
+    let is_serials = |filling: &Filling| matches!(filling, Filling::Serials(_));
+    for filling in Filling::ALL.into_iter().filter(is_serials) {
+        for (pages, calls) in SERIAL_CALLS {
+            cases.extend(cases_on(filling, pages, 0, calls));
+        }
+    }
+    cases
+}
+
+/// These calls on an image of this many pages, about so many of them free.
+fn cases_on(filling: Filling, pages: usize, free: usize, calls: CallsOn) -> Vec<Case> {
+    let sample = cards::sample(filling, pages, pages - free);
+    let calls = calls(filling.table(&sample.layout)).into_iter();
+    calls
+        .map(|(name, call)| case(name, filling.name(), sample.image.clone(), call))
+        .collect()
 }
 
 /// Calls on the table that is filled.
@@ -89,6 +107,9 @@ const CALLS: [(Filling, usize, CallsOn); 9] = [
     (Filling::Tables, 80, names_calls),
     (Filling::FullNames, 80, full_names_calls),
 ];
+
+/// The calls on images of this many pages with serial numbers as keys.
+const SERIAL_CALLS: [(usize, CallsOn); 2] = [(256, serial_calls), (4096, check_alone)];
 
 fn get(key: Vec<u8>) -> Call {
     let name = cards::NAME.to_vec();
@@ -148,6 +169,24 @@ fn small_calls(table: &Table) -> Vec<(&'static str, Call)> {
         ("remove missing key", remove(missing(keys / 2))),
         ("create", create(b"another")),
         ("create, there already", create(cards::NAME)),
+    ]
+}
+
+fn check_alone(_: &Table) -> Vec<(&'static str, Call)> {
+    vec![("check", Call::Check)]
+}
+
+/// Gets of keys of the span in the middle of the table.
+fn serial_calls(table: &Table) -> Vec<(&'static str, Call)> {
+    let entries = &table.spans[table.spans.len() / 2].entries;
+    let (middle, last) = (entries.len() / 2, entries.len() - 1);
+    vec![
+        ("check", Call::Check),
+        (
+            "get, key in the middle of a span",
+            get(entries[middle].key.clone()),
+        ),
+        ("get, last key of a span", get(entries[last].key.clone())),
     ]
 }
 

@@ -1,12 +1,12 @@
 //! How long the calls take: the twin, the library where it is linked, and the memory limit, each
-//! in the same rounds.
+//! in the same rounds; with serial numbers as keys also the twin that compares them byte by byte.
 
 pub mod cards;
 pub mod cases;
 mod report;
 mod timer;
 
-use crate::compare::programs::{Program, TWIN};
+use crate::compare::programs::{Program, BYTE_LOOP, TWIN};
 use crate::page::PAGE;
 use cases::Case;
 use report::Row;
@@ -16,8 +16,9 @@ use timer::Task;
 
 /// Runs all cases, and gives the tables in Markdown.
 pub fn bench(library: Option<&Program>) -> String {
-    let checks = measure_all(&cases::check_cases(), library);
-    let calls = measure_all(&cases::call_cases(), library);
+    let checks = measure_all(&cases::check_cases(), None, library);
+    let calls = measure_all(&cases::call_cases(), None, library);
+    let serials = measure_all(&cases::serial_cases(), Some(&BYTE_LOOP), library);
     [
         "Check:\n\n".to_owned(),
         report::rows_table(&checks),
@@ -25,40 +26,47 @@ pub fn bench(library: Option<&Program>) -> String {
         report::rows_table(&calls),
         "\nCheck, time per page:\n\n".to_owned(),
         report::per_page_table(&checks),
+        "\nSerial numbers as keys:\n\n".to_owned(),
+        report::serials_table(&serials),
     ]
     .concat()
 }
 
-fn measure_all(cases: &[Case], library: Option<&Program>) -> Vec<Row> {
-    let rows = cases.iter().filter_map(|case| measure(case, library));
-    rows.collect()
+fn measure_all(cases: &[Case], byte_loop: Option<&Program>, library: Option<&Program>) -> Vec<Row> {
+    let rows = cases.iter();
+    rows.filter_map(|case| measure(case, byte_loop, library))
+        .collect()
 }
 
-/// Times one case, for the library only where it has the call. Both programs have to leave the
-/// same.
-fn measure(case: &Case, library: Option<&Program>) -> Option<Row> {
+/// Times one case, for the programs beside the twin only where they have the call. All have to leave
+/// the same.
+fn measure(case: &Case, byte_loop: Option<&Program>, library: Option<&Program>) -> Option<Row> {
     let outcome = TWIN.run(&case.image, &case.request)?;
-    let library = library.filter(|other| {
+    let has_call = |other: &&Program| {
         let given = other.run(&case.image, &case.request);
         let same = given.as_ref().map(|given| outcome.same_as(given));
         same.transpose().expect("the same outcome").is_some()
-    });
+    };
+    let (byte_loop, library) = (byte_loop.filter(has_call), library.filter(has_call));
     let lent = RefCell::new(Lent {
         image: case.image.clone(),
-        scratch: outcome.scratch,
-        buffer: outcome.buffer,
+        scratch: outcome.scratch.clone(),
+        buffer: outcome.buffer.clone(),
     });
     let mut tasks = vec![memory_task(case, &lent), call_task(case, &lent, &TWIN)];
-    tasks.extend(library.map(|other| call_task(case, &lent, other)));
-    let times = timer::time(&mut tasks);
+    let others = byte_loop.into_iter().chain(library);
+    tasks.extend(others.map(|other| call_task(case, &lent, other)));
+    let mut times = timer::time(&mut tasks).into_iter();
+    let mut next = || times.next().expect("a time of every task");
     Some(Row {
         call: case.call,
-        image: case.image_name,
+        image: case.image_name.clone(),
         pages: case.image.len() / PAGE,
         number: outcome.answer.number,
-        memory: times[0],
-        twin: times[1],
-        library: times.get(2).copied(),
+        memory: next(),
+        twin: next(),
+        byte_loop: byte_loop.map(|_| next()),
+        library: library.map(|_| next()),
     })
 }
 

@@ -5,23 +5,34 @@ use super::timer::Times;
 /// What was measured of a case.
 pub struct Row {
     pub call: &'static str,
-    pub image: &'static str,
+    pub image: String,
     pub pages: usize,
     pub number: u32,
-    pub twin: Times,
-    pub library: Option<Times>,
     pub memory: Times,
+    pub twin: Times,
+    /// The twin that compares keys byte by byte.
+    pub byte_loop: Option<Times>,
+    pub library: Option<Times>,
+}
+
+/// The columns that rows begin with.
+const COLUMNS: [&str; 6] = ["call", "image", "pages", "answer", "memory µs", "twin µs"];
+
+/// What a row has in these columns.
+fn cells(row: &Row) -> Vec<String> {
+    vec![
+        row.call.to_owned(),
+        row.image.clone(),
+        row.pages.to_string(),
+        row.number.to_string(),
+        least(&row.memory),
+        least(&row.twin),
+    ]
 }
 
 /// A line for each row.
 pub fn rows_table(rows: &[Row]) -> String {
-    let header = [
-        "call",
-        "image",
-        "pages",
-        "answer",
-        "memory µs",
-        "twin µs",
+    let more = [
         "median",
         "twin/memory",
         "library µs",
@@ -30,22 +41,47 @@ pub fn rows_table(rows: &[Row]) -> String {
     ];
     let line = |row: &Row| {
         let library = |show: fn(&Times) -> String| row.library.as_ref().map_or(none(), show);
-        vec![
-            row.call.to_owned(),
-            row.image.to_owned(),
-            row.pages.to_string(),
-            row.number.to_string(),
-            least(&row.memory),
-            least(&row.twin),
+        let mut line = cells(row);
+        line.extend([
             median(&row.twin),
             ratio(&row.twin, &row.memory),
             library(least),
             library(median),
-            row.library
-                .map_or(none(), |library| ratio(&library, &row.twin)),
-        ]
+            library_beside(row, Some(row.twin)),
+        ]);
+        line
     };
+    let header = [&COLUMNS[..], &more].concat();
     markdown(&header, rows.iter().map(line).collect(), 2)
+}
+
+/// A line for each row with serial numbers as keys.
+pub fn serials_table(rows: &[Row]) -> String {
+    let more = [
+        "byte loop µs",
+        "library µs",
+        "library/twin",
+        "library/byte loop",
+    ];
+    let line = |row: &Row| {
+        let shown = |times: Option<Times>| times.as_ref().map_or(none(), least);
+        let mut line = cells(row);
+        line.extend([
+            shown(row.byte_loop),
+            shown(row.library),
+            library_beside(row, Some(row.twin)),
+            library_beside(row, row.byte_loop),
+        ]);
+        line
+    };
+    let header = [&COLUMNS[..], &more].concat();
+    markdown(&header, rows.iter().map(line).collect(), 2)
+}
+
+/// The ratio of the library's time to another one.
+fn library_beside(row: &Row, other: Option<Times>) -> String {
+    let both = row.library.zip(other);
+    both.map_or(none(), |(library, other)| ratio(&library, &other))
 }
 
 /// The time per page at 256 and 4,096 pages, for the images that come in both sizes.
@@ -66,7 +102,7 @@ pub fn per_page_table(rows: &[Row]) -> String {
             .find(|row| row.pages == 4096 && row.image == small.image);
         let Some(large) = large else { continue };
         lines.push(vec![
-            small.image.to_owned(),
+            small.image.clone(),
             per_page(Some(small.memory), 256),
             per_page(Some(large.memory), 4096),
             per_page(Some(small.twin), 256),
