@@ -136,12 +136,15 @@ impl Neighbours<'_> {
             };
             return (difference, lengths.is_lt());
         };
-        let difference = match (lengths, differ.next()) {
+        let rises = one < other;
+        let mut later = differ.map(|(_, (one, other))| (one < other) == rises);
+        let difference = match (lengths, later.next()) {
             (Ordering::Equal, None) => Difference::Byte(at),
-            (Ordering::Equal, Some(_)) => Difference::Bytes(at),
-            _ => Difference::LastByte(at),
+            (Ordering::Equal, Some(false)) => Difference::Bytes(at),
+            (_, None) if lengths.is_gt() == rises => Difference::LastByte(at),
+            _ => unreachable!("the keys of no pair differ so"),
         };
-        (difference, one < other)
+        (difference, rises)
     }
 
     /// The cases that they are.
