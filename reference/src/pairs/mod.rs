@@ -135,8 +135,8 @@ fn place(offset: usize, on_own: bool) -> Place {
     Place { page, offset }
 }
 
-/// The keys, of which the longer has this length. Every other proper prefix is followed by zeros: with
-/// zeros it would also be filled up to a whole word.
+/// The keys, of which the longer has this length. Behind every other proper prefix the longer key has
+/// zeros: a comparison that fills the shorter one up with zeros takes them for equal.
 fn keys(length: usize, difference: Difference, bytes: (u8, u8)) -> (Vec<u8>, Vec<u8>) {
     let common = |place: usize| (2 + 59 * place) as u8;
     let mut lower: Vec<u8> = (0..length).map(common).collect();
