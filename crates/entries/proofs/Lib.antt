@@ -1,8 +1,8 @@
 pub mod Rests
 pub mod Octets
 pub mod Places
-pub mod Orders
+pub mod Names
 pub mod Prefixes
-pub mod Words
 pub mod Keys
+pub mod Parts
 pub mod Copies

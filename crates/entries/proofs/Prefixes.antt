@@ -1,41 +1,21 @@
--- The prefix of a key: where it is below another's, so is the key. It is read off the page, and what stands behind the key is cut off.
-use Prim.Native.Nat.{ℕ, zero, suc, _+_, _*_, _-_, _/_, _%_, _^_, _≤_, _<_}
+-- The prefix of a key. It is read off the page, and what stands behind the key is cut off.
+use Prim.Native.Nat.{ℕ, _+_, _*_, _-_, _/_, _%_, _^_, _≤_, _<_}
 use native.Mathlib.Omega.{arith}
-use native.Mathlib.Decide.{decLt}
-use native.Mathlib.Nat.{add-mul, mul-le-mul-right, div-mul-le-self, lt-of-le-of-lt, mod-eq-of-lt}
-use mathlib.Core.Path.{_≡_, refl, ap, sym, _∙_, subst}
-use mathlib.Core.Logic.{by-cases}
-use mathlib.Core.List.{List, [], _∷_}
+use native.Mathlib.Nat.{div-mul-le-self, lt-of-le-of-lt, mod-eq-of-lt}
+use mathlib.Core.Path.{_≡_, ap, sym, _∙_, subst}
+use mathlib.Core.List.{List}
 use lib.ListN.{take, drop, getD}
 use Rattle.blockfile.specs.Bytes.{be64, Every}
 use Rattle.pages.specs.Begins.{lead}
 use Rattle.pages.proofs.Words.{Byte, bytes-take, lead-below, lead-take, lead-cut, be64-lead}
-use Rattle.entries.specs.declared.key.Order.the-variants.{Less}
+use Rattle.order.specs.declared.bytes.Order.the-variants.{Less}
+use Rattle.order.specs.Bytes.{order}
+use Rattle.order.proofs.Orders.{lead-order}
 use Rattle.entries.specs.declared.place.Place.{Place}
 use Rattle.entries.specs.Places.{Rest}
-use Rattle.entries.specs.Keys.{KeyAt, order, Prefixed, PrefixMost}
+use Rattle.entries.specs.Keys.{KeyAt, Prefixed, PrefixMost}
 use Rattle.entries.proofs.Rests.{rest-take}
 use Rattle.entries.proofs.Octets.{bytes-rest}
-use Rattle.entries.proofs.Orders.{order-less, order-on, order-shorter}
-
--- where the number of the first bytes is below another's, so are the bytes
-pub lead-order : (n : ℕ) (k l : List ℕ) → Every Byte l → lead n k < lead n l → order k l ≡ Less
-unfolding lead
-lead-order zero k l h e = absurd (omega arith)
-lead-order (suc n) k [] h e = absurd (omega arith)
-lead-order (suc n) [] (y ∷ l) h e = order-shorter [] (y ∷ l) refl (omega arith)
-lead-order (suc n) (x ∷ k) (y ∷ l) h e =
-    by-cases (decLt x y) (λ less. order-less _ _ x y k l refl refl less)
-    (λ not.
-    by-cases (decLt y x)
-    (λ more.
-    let high : (y + 1) * 2 ^ (8 * n) ≤ x * 2 ^ (8 * n) = mul-le-mul-right (2 ^ (8 * n)) (omega arith) in
-    let sum : (y + 1) * 2 ^ (8 * n) ≡ y * 2 ^ (8 * n) + 1 * 2 ^ (8 * n) = add-mul y 1 (2 ^ (8 * n)) in
-    absurd (omega (arith, lead-below n l (h .1))))
-    (λ same.
-    let is : x ≡ y = omega arith in
-    let rest : lead n k < lead n l = (let f = (subst (λ (z : ℕ). z * 2 ^ (8 * n) + lead n k < y * 2 ^ (8 * n) + lead n l) is e) in omega (arith, f)) in
-    order-on _ _ x y k l refl refl is ∙ lead-order n k l (h .1) rest))
 
 -- ---- the number of eight bytes on a page
 

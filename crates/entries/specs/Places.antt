@@ -54,6 +54,15 @@ pub record Settled (img : List ℕ) (at : Place) (n : ℕ) (here : Place) : Type
   pub low : 8 ≤ here .offset
   pub room : here .offset + n ≤ 1024
 
+-- the image has n bytes more from the place on, if no page breaks off before
+pub record Here (img : List ℕ) (at : Place) (n : ℕ) : Type 0 where
+  pub low : 1 ≤ at .page
+  pub inside : 1024 * (at .page - 1) + at .offset + n ≤ length img
+
+-- these bytes
+abbrev pub here : (img : List ℕ) → Place → (n : ℕ) → List ℕ
+here img at n = take n (drop (1024 * (at .page - 1) + at .offset) img)
+
 -- the byte at the place, and the place after it
 pub record Stepped (img : List ℕ) (at : Place) (g : Got) : Type 0 where
   pub byte : (s : List ℕ) → Rest img at s → g .byte ≡ getD s 0 0

@@ -1,7 +1,7 @@
 // Places in the pages of a span: reading on over page breaks.
 ghost use mathlib.Core.Path.{_≡_};
 ghost use Prim.Native.Nat.{_+_, _*_, _-_, _≤_};
-ghost use Rattle.entries.specs.Places.{Enough, Moved, gap, Settled, Stepped, Measured};
+ghost use Rattle.entries.specs.Places.{Enough, Moved, gap, Settled, Here, here, Stepped, Measured};
 use pages::read::get16;
 use pages::read::get32;
 
@@ -47,6 +47,18 @@ pub fn settle(image: &[u8], at: Place, n: usize) -> Place
         };
     }
     Place { page, offset }
+}
+
+// The n bytes from the place on, which lie on its page.
+pub fn bytes_at(image: &[u8], at: Place, n: usize) -> &[u8]
+    requires { ⌜ Here (now image) at n ⌝ }
+    ensures { λ r. ⌜ now r ≡ here (now (image .entry)) at n ⌝ }
+{
+    let page = at.page;
+    let offset = at.offset;
+    let from = 1024 * (page - 1) + offset;
+    let end = from + n;
+    &image[from..end]
 }
 
 // The lengths of the entry that follows. Its four length bytes lie on one page.

@@ -9,9 +9,9 @@ use lib.Dec.{T}
 use Rattle.blockfile.specs.Order.{KeyRule, bytesBelow, same, within, allWithin, nameRule, keyRule}
 use Rattle.blockfile.proofs.Bools.{and-both, within-is, same-eq}
 use Rattle.laws.proofs.Orders.{Ordered, keys-ordered}
-use Rattle.entries.specs.declared.key.Order.the-variants.{Less, Equal, Greater}
-use Rattle.entries.specs.Keys.{order}
-use Rattle.entries.proofs.Orders.{less-below, equal-same}
+use Rattle.order.specs.declared.bytes.Order.the-variants.{Less, Equal, Greater}
+use Rattle.order.specs.Bytes.{order}
+use Rattle.order.proofs.Orders.{less-below, equal-same}
 use Rattle.search.specs.Spans.{Bytewise}
 
 pub names-bytewise : Bytewise nameRule

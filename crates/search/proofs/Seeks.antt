@@ -16,12 +16,13 @@ use Rattle.laws.proofs.Orders.{Ordered}
 use Rattle.laws.proofs.Maps.{find-low}
 use Rattle.laws.proofs.Middle.{under-differs, under-not-over}
 use Rattle.pages.specs.Places.{Inside}
-use Rattle.entries.specs.declared.key.Order.{Order}
-use Rattle.entries.specs.declared.key.Order.the-variants.{Less, Equal, Greater}
+use Rattle.order.specs.declared.bytes.Order.{Order}
+use Rattle.order.specs.declared.bytes.Order.the-variants.{Less, Equal, Greater}
 use Rattle.entries.specs.declared.place.Place.{Place}
 use Rattle.entries.specs.declared.place.Sizes.{Sizes}
 use Rattle.entries.specs.Places.{Moved, Measured}
-use Rattle.entries.specs.Keys.{order, ComparedTo}
+use Rattle.order.specs.Bytes.{order}
+use Rattle.entries.specs.Keys.{ComparedTo}
 use Rattle.search.specs.declared.span.Sought.{Sought}
 use Rattle.search.specs.declared.span.Sought.the-variants.{Found, Missing}
 use Rattle.search.specs.declared.span.Stop.{Stop}

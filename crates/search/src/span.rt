@@ -1,10 +1,10 @@
 // The entries of one span, read in their order. Keys rise, so a search stops at the first key above the one sought.
 ghost use Rattle.search.specs.Spans.{SpanOn, EntryThere, StoppedOn, FoundOn, AboveOn, OverOn, KeyOf};
-use entries::key::Order;
 use entries::key::compare_slice;
 use entries::place::Place;
 use entries::place::Sizes;
 use entries::place::lengths;
+use order::bytes::Order;
 use pages::read::get16;
 use reader::place_after;
 

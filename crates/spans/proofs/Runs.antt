@@ -14,13 +14,13 @@ use Rattle.blockfile.specs.Order.{bytesBelow}
 use Rattle.blockfile.proofs.Bools.{so, not-so}
 use Rattle.entries.specs.declared.place.Place.{Place}
 use Rattle.entries.specs.declared.place.Sizes.{Sizes}
-use Rattle.entries.specs.declared.key.Order.{Order}
-use Rattle.entries.specs.declared.key.Order.the-variants.{Less}
+use Rattle.order.specs.declared.bytes.Order.{Order}
+use Rattle.order.specs.declared.bytes.Order.the-variants.{Less}
 use Rattle.entries.specs.Places.{Rest, Enough, Moved, gap, Measured}
 use Rattle.entries.specs.Keys.{KeyAt, Key, Compared, Prefixed, PrefixMost}
 use Rattle.entries.proofs.Rests.{rest-one, rest-length}
 use Rattle.entries.proofs.Places.{gap-next, gap-here}
-use Rattle.entries.proofs.Orders.{less-below, below-less}
+use Rattle.order.proofs.Orders.{less-below, below-less}
 use Rattle.entries.proofs.Keys.{key-one, key-length}
 use Rattle.entries.proofs.Prefixes.{prefix-above}
 use Rattle.spans.specs.declared.entry.Last.{Last}

@@ -8,7 +8,6 @@ ghost use Rattle.entries.specs.Places.{Moved, Measured};
 ghost use Rattle.spans.specs.Spans.{Keys};
 ghost use Rattle.spans.specs.Charts.{along, Paged, Spread};
 ghost use Rattle.spans.specs.Entries.{Met, IsAbove, Whole, Ready, Entering, Tries, Skims};
-use entries::key::Order;
 use entries::key::compare_keys;
 use entries::place::Place;
 use entries::place::Sizes;
@@ -17,6 +16,7 @@ use entries::place::lengths;
 use entries::prefix::prefix;
 use entries::prefix::prefix_most;
 use heads::claim::head32;
+use order::bytes::Order;
 use reader::place_after;
 
 // The last key met: its place, its length, 0 where there is none, and a number that its prefix is not above.

@@ -2,7 +2,7 @@
 use Prim.Native.Nat.{_-_}
 use native.Mathlib.Omega.{arith}
 use lib.ListN.{length}
-use Rattle.entries.proofs.Orders.{Scanned, scanned-none, scanned-low, scanned-high, scanned-more, scanned-all}
+use Rattle.entries.proofs.Names.{Scanned, scanned-none, scanned-low, scanned-high, scanned-more, scanned-all}
 use Rattle.entries.proofs.key.printable_bytes.Statement.{statement}
 use Rattle.entries.proofs.key.printable_bytes.Tie as tie
 

@@ -1,7 +1,7 @@
 -- `entries::key::together` meets its contract.
 use native.Mathlib.Omega.{arith}
 use borrow.Author.Needs.{needs}
-use Rattle.entries.proofs.Keys.{least-some}
+use Rattle.entries.proofs.Parts.{least-some}
 use Rattle.entries.proofs.key.together.Statement.{statement}
 use Rattle.entries.proofs.key.together.Tie as tie
 

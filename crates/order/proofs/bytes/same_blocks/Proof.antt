@@ -1,11 +1,11 @@
--- `entries::key::same_start` meets its contract: the blocks passed are the same.
+-- `order::bytes::same_blocks` meets its contract: the blocks passed are the same.
 use Prim.Native.Nat.{_-_, _≤_}
 use native.Mathlib.Omega.{arith}
 use borrow.Author.Tests.{not-false}
-use Rattle.entries.specs.Keys.{SameFrom}
-use Rattle.entries.proofs.Orders.{same-none, same-join}
-use Rattle.entries.proofs.key.same_start.Statement.{statement}
-use Rattle.entries.proofs.key.same_start.Tie as tie
+use Rattle.order.specs.Bytes.{SameFrom}
+use Rattle.order.proofs.Alike.{same-none, same-join}
+use Rattle.order.proofs.bytes.same_blocks.Statement.{statement}
+use Rattle.order.proofs.bytes.same_blocks.Tie as tie
 
 abbrev Inv-loop : tie.InvT-loop
 Inv-loop x y n i₀ i = (i ≤ n) × SameFrom x y 0 i
@@ -37,19 +37,21 @@ returns-3 c = (omega arith, same-join (c .before .before .before .loop .inv .1) 
 returns-4 : tie.Need-returns-4 Inv-loop μ-loop
 returns-4 c = c .before .before .before .loop .inv
 
-pub same-start-spec : {M : Type 1} → statement M
-same-start-spec =
+pub same-blocks-spec : {M : Type 1} → statement M
+same-blocks-spec =
     tie.close
     (tie.spec
     Inv-loop
     μ-loop
     returns
     loop-holds
+    (λ c. omega arith)
     same-block-requires
     returns-2
     (λ c. omega arith)
     (λ c. omega arith)
     loop-again
+    (λ c. omega arith)
     same-block-requires-2
     returns-3
     returns-4)

@@ -1,11 +1,11 @@
--- `entries::key::same_block` meets its contract: the differences of the bytes passed are 0 only where these are the same.
+-- `order::bytes::same_block` meets its contract: the differences of the bytes passed are 0 only where these are the same.
 use Prim.Native.Nat.{ℕ, _+_, _-_, _≤_}
 use native.Mathlib.Omega.{arith}
 use mathlib.Core.Path.{_≡_}
-use Rattle.entries.specs.Keys.{SameFrom}
-use Rattle.entries.proofs.Orders.{same-none, same-turn}
-use Rattle.entries.proofs.key.same_block.Statement.{statement}
-use Rattle.entries.proofs.key.same_block.Tie as tie
+use Rattle.order.specs.Bytes.{SameFrom}
+use Rattle.order.proofs.Alike.{same-none, same-turn}
+use Rattle.order.proofs.bytes.same_block.Statement.{statement}
+use Rattle.order.proofs.bytes.same_block.Tie as tie
 
 abbrev Inv-loop : tie.InvT-loop
 Inv-loop x y from differing₀ i₀ differing i = (i ≤ 64) × (differing ≡ 0 → SameFrom x y from (from + i))

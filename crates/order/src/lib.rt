@@ -1,0 +1,2 @@
+// The order of byte strings: by unsigned bytes, a proper prefix first, compared eight bytes at a time.
+pub mod bytes;
