@@ -1,4 +1,4 @@
--- Keys at places: a key is one list, on one page it is a part of the image, and over page breaks it is read byte by byte.
+-- Keys at places: a key is one list, and on one page it is a part of the image; the bytes of a name are read one by one.
 use Prim.Native.Nat.{ℕ, zero, suc, _+_, _-_, _≤_, _<_}
 use native.Mathlib.Omega.{arith}
 use mathlib.Core.Path.{_≡_, refl, ap, ap₂, sym, _∙_}

@@ -48,10 +48,6 @@ equal-same k l e = go (same k l) (bytesBelow k l) e
     go false true e = absurd (let z : _≡_ {A = ℕ} 0 1 = cc in omega arith)
     go false false e = absurd (let z : _≡_ {A = ℕ} 0 1 = cc in omega arith)
 
-pub same-equal : (k l : List ℕ) → T (same k l) → order k l ≡ Equal
-unfolding order
-same-equal k l h = rw (so (same k l) h)
-
 -- ---- by words, and by the numbers of the first bytes
 
 pub word-order : (k l : List ℕ) → Every Byte k → Every Byte l → wordOrder k l ≡ order k l
