@@ -10,6 +10,7 @@ use crate::generate::Sample;
 use crate::layout::{Block, Layout, Span, Table};
 use crate::page::{self, block, skip_list, span, superblock, tower, Kind, MAX_NUMBERS, PAGE};
 use crate::request::{Call, Request};
+use crate::sort::Sort;
 use std::collections::{BTreeMap, BTreeSet};
 
 /// Gives the layout after the call, or says what does not hold.
@@ -74,13 +75,14 @@ pub fn reach(lengths: &[(usize, usize)]) -> usize {
     at.div_ceil(ROW) - 1
 }
 
-/// The table that a call changes: the metaindex on a create.
-fn changed_table<'a>(layout: &'a Layout, call: &Call) -> Option<&'a Table> {
+/// The table that a call changes, with how its keys sort: the metaindex on a create.
+fn changed_table<'a>(layout: &'a Layout, call: &Call) -> Option<(Sort, &'a Table)> {
     match call {
         Call::Put { name, .. } | Call::Remove { name, .. } => {
-            layout.find(name).map(|place| &layout.tables[place].1)
+            let place = layout.find(name)?;
+            Some((Sort::of(name), &layout.tables[place].1))
         }
-        Call::Create { .. } => Some(&layout.meta),
+        Call::Create { .. } => Some((Sort::Bytes, &layout.meta)),
         Call::Check | Call::Get { .. } | Call::Next { .. } => None,
     }
 }
@@ -95,23 +97,30 @@ fn changed_key(call: &Call) -> &[u8] {
 }
 
 /// The span that a key belongs to: the one before the first later span that begins above it.
-fn span_of<'a>(table: &'a Table, key: &[u8]) -> &'a Span {
-    let begins_above = |span: &&Span| span.entries[0].key.as_slice() > key;
+fn span_of<'a>(sort: Sort, table: &'a Table, key: &[u8]) -> &'a Span {
+    let begins_above = |span: &&Span| sort.compare(&span.entries[0].key, key).is_gt();
     let above = table.spans[1..].iter().filter(begins_above).count();
     &table.spans[table.spans.len() - 1 - above]
 }
 
-/// The pages wanted by a put (`more` is 0) or a create (`more` is 3).
-fn wanted(table: &Table, key: &[u8], value: &[u8], more: usize) -> usize {
-    let mut map: BTreeMap<&[u8], &[u8]> = BTreeMap::new();
-    for entry in &span_of(table, key).entries {
-        map.insert(&entry.key, &entry.value);
-    }
-    map.insert(key, value);
-    let lengths: Vec<(usize, usize)> = map
-        .iter()
-        .map(|(key, value)| (key.len(), value.len()))
+/// The lengths of a span's entries, in order, after this one is put among them.
+fn lengths_with(sort: Sort, span: &Span, key: &[u8], value: &[u8]) -> Vec<(usize, usize)> {
+    let entries = span.entries.iter();
+    let mut entries: Vec<(&[u8], usize)> = entries
+        .filter(|entry| entry.key != key)
+        .map(|entry| (entry.key.as_slice(), entry.value.len()))
         .collect();
+    entries.push((key, value.len()));
+    entries.sort_by(|(one, _), (other, _)| sort.compare(one, other));
+    entries
+        .into_iter()
+        .map(|(key, value)| (key.len(), value))
+        .collect()
+}
+
+/// The pages wanted by a put (`more` is 0) or a create (`more` is 3).
+fn wanted(sort: Sort, table: &Table, key: &[u8], value: &[u8], more: usize) -> usize {
+    let lengths = lengths_with(sort, span_of(sort, table, key), key, value);
     if lengths.len() <= usize::from(table.span_size) {
         return reach(&lengths) + more;
     }
@@ -126,18 +135,24 @@ fn no_room_rightly(before: &Layout, call: &Call, answer: &Answer) -> Result<(), 
     if !matches!(answer.number, 0 | 10) {
         return Ok(());
     }
-    let exceed = changed_table(before, call).is_some_and(|table| match call {
-        Call::Put { key, value, .. } => exceeds(before, table, key, value, 0),
-        Call::Create { name } => exceeds(before, table, name, &[0; 4], 3),
+    let exceed = changed_table(before, call).is_some_and(|changed| match call {
+        Call::Put { key, value, .. } => exceeds(before, changed, key, value, 0),
+        Call::Create { name } => exceeds(before, changed, name, &[0; 4], 3),
         Call::Check | Call::Get { .. } | Call::Remove { .. } | Call::Next { .. } => false,
     });
     ensure(exceed == (answer.number == 10), "10 exactly in its case")
 }
 
 /// Whether the "wanted pages exceed the old continuation pages plus F".
-fn exceeds(before: &Layout, table: &Table, key: &[u8], value: &[u8], more: usize) -> bool {
-    let old = span_of(table, key).continuations.len();
-    wanted(table, key, value, more) > old + before.free_pages()
+fn exceeds(
+    before: &Layout,
+    (sort, table): (Sort, &Table),
+    key: &[u8],
+    value: &[u8],
+    more: usize,
+) -> bool {
+    let old = span_of(sort, table, key).continuations.len();
+    wanted(sort, table, key, value, more) > old + before.free_pages()
 }
 
 /// A done put, remove or create.
@@ -155,14 +170,15 @@ struct Change<'a> {
 
 impl<'a> Change<'a> {
     fn new(before: &'a Layout, after: &'a Layout, call: &'a Call) -> Option<Change<'a>> {
-        let old = changed_table(before, call)?;
+        let (sort, old) = changed_table(before, call)?;
+        let (_, new) = changed_table(after, call)?;
         Some(Change {
             call,
             before,
             after,
             old,
-            new: changed_table(after, call)?,
-            target: span_of(old, changed_key(call)),
+            new,
+            target: span_of(sort, old, changed_key(call)),
         })
     }
 

@@ -5,6 +5,7 @@ use crate::edit::{self, NoRoom};
 use crate::entries::MAX_LENGTH;
 use crate::layout::{Layout, Table};
 use crate::page;
+use crate::sort::Sort;
 
 /// What a call returns. "A refusal returns its number, and with 9 the length needed, every other
 /// number in the result 0."
@@ -91,7 +92,7 @@ fn try_get(
     into: &mut [u8],
 ) -> Result<Answer, Refusal> {
     let layout = open(image, scratch)?;
-    require(legal_name(name) && legal_key(key), Refusal::NameOrKey)?;
+    require(legal_name(name) && legal_key(name, key), Refusal::NameOrKey)?;
     let table = find(&layout, name)?;
     let value = table.value(key).ok_or(Refusal::NoSuchKey)?;
     hand_over(value, into)
@@ -110,10 +111,11 @@ fn try_next(
     into: &mut [u8],
 ) -> Result<Answer, Refusal> {
     let layout = open(image, scratch)?;
-    let legal = legal_name(name) && key.len() <= MAX_LENGTH;
+    let legal = legal_name(name) && (key.is_empty() || legal_key(name, key));
     require(legal, Refusal::NameOrKey)?;
     let table = find(&layout, name)?;
-    let above = table.above(key).ok_or(Refusal::NoSuchKey)?;
+    let above = table.above(Sort::of(name), key);
+    let above = above.ok_or(Refusal::NoSuchKey)?;
     hand_over(above, into)
 }
 
@@ -130,11 +132,11 @@ fn try_put(
     value: &[u8],
 ) -> Result<Answer, Refusal> {
     let mut layout = open(image, scratch)?;
-    require(legal_name(name) && legal_key(key), Refusal::NameOrKey)?;
+    require(legal_name(name) && legal_key(name, key), Refusal::NameOrKey)?;
     require(value.len() <= MAX_LENGTH, Refusal::ValueLength)?;
     let free = layout.free_pages();
     let table = find_mut(&mut layout, name)?;
-    edit::put(image, free, table, key, value)?;
+    edit::put(image, free, table, Sort::of(name), key, value)?;
     Ok(Answer::default())
 }
 
@@ -150,10 +152,10 @@ fn try_remove(
     key: &[u8],
 ) -> Result<Answer, Refusal> {
     let mut layout = open(image, scratch)?;
-    require(legal_name(name) && legal_key(key), Refusal::NameOrKey)?;
+    require(legal_name(name) && legal_key(name, key), Refusal::NameOrKey)?;
     let table = find_mut(&mut layout, name)?;
     require(table.value(key).is_some(), Refusal::NoSuchKey)?;
-    edit::remove(image, table, key);
+    edit::remove(image, table, Sort::of(name), key);
     Ok(Answer::default())
 }
 
@@ -197,9 +199,10 @@ fn legal_name(name: &[u8]) -> bool {
     check::name_rules(name).is_empty()
 }
 
-/// "Key 1 to 65,535 bytes."
-fn legal_key(key: &[u8]) -> bool {
-    (1..=MAX_LENGTH).contains(&key.len())
+/// "4 also for a key of another length under such a name, table there or not" (document 02, T-05):
+/// whether the table of this name, if there is one, may hold the key.
+fn legal_key(name: &[u8], key: &[u8]) -> bool {
+    Sort::of(name).allows(key)
 }
 
 fn find<'a>(layout: &'a Layout, name: &[u8]) -> Result<&'a Table, Refusal> {

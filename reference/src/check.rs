@@ -11,6 +11,7 @@ use crate::page::{
     PAGE, SUPERBLOCK,
 };
 use crate::rule::{Broken, Rule};
+use crate::sort::Sort;
 use std::collections::{BTreeMap, BTreeSet};
 
 /// The layout of a well-formed image, or every broken rule that was seen.
@@ -172,7 +173,7 @@ impl Walk<'_> {
         self.own(METAINDEX, Kind::SkipList);
         self.superblock();
         let free = self.free_list();
-        let meta = self.table(METAINDEX);
+        let meta = self.table(METAINDEX, Sort::Bytes);
         let tables = self.tables(&meta);
         for number in 1..=self.pages {
             let owned = self.owner[number as usize].is_some();
@@ -250,18 +251,21 @@ impl Walk<'_> {
                 let Ok(value) = value else { continue };
                 let root = u32::from_be_bytes(value);
                 if self.own_named(root, Kind::SkipList, Rule::TableRange, span.page) {
-                    tables.push((entry.key.clone(), self.table(root)));
+                    let name = entry.key.clone();
+                    let table = self.table(root, Sort::of(&name));
+                    tables.push((name, table));
                 }
             }
         }
         tables
     }
 
-    /// A table, or the metaindex, from its skip-list page.
-    fn table(&mut self, root: u32) -> Table {
+    /// A table, or the metaindex, from its skip-list page; its keys sort so.
+    fn table(&mut self, root: u32, sort: Sort) -> Table {
         let span_size = self.u16(root, skip_list::SPAN_SIZE);
         self.expect(legal_span_size(span_size), Rule::TableSpanSize, root);
         let mut spans = self.spans(root, span_size);
+        self.keys(sort, &spans);
         let keys: u32 = spans
             .iter()
             .map(|one| u32::from(self.u16(one.page, span::SIZE)))
@@ -299,7 +303,6 @@ impl Walk<'_> {
             spans.push(self.span(number, span_size, previous == 0));
             previous = number;
         }
-        self.keys_rise(&spans);
         spans
     }
 
@@ -331,7 +334,6 @@ impl Walk<'_> {
                 self.expect(false, Rule::TooFewContinuations, pages[0]);
                 return entries;
             };
-            self.expect(!entry.key.is_empty(), Rule::KeyEmpty, pages[0]);
             entries.push(entry);
             place = after;
         }
@@ -340,14 +342,19 @@ impl Walk<'_> {
         entries
     }
 
-    /// "Keys increase strictly through the whole table. Every table sorts by unsigned bytes, a
-    /// proper prefix first."
-    fn keys_rise(&mut self, spans: &[Span]) {
+    /// "Keys increase strictly through the whole table", in the table's own order. A key that the
+    /// table may not hold has no place in the order.
+    fn keys(&mut self, sort: Sort, spans: &[Span]) {
+        let (allowed, rising) = key_rules(sort);
         let mut last: Option<&[u8]> = None;
         for span in spans {
             for entry in &span.entries {
-                let rises = last.is_none_or(|last| last < entry.key.as_slice());
-                self.expect(rises, Rule::KeysRising, span.page);
+                if !sort.allows(&entry.key) {
+                    self.expect(false, allowed, span.page);
+                    continue;
+                }
+                let rises = last.is_none_or(|last| sort.compare(last, &entry.key).is_lt());
+                self.expect(rises, rising, span.page);
                 last = Some(&entry.key);
             }
         }
@@ -482,6 +489,14 @@ fn sorted(pages: &[u32]) -> Vec<u32> {
     let mut pages = pages.to_vec();
     pages.sort_unstable();
     pages
+}
+
+/// The rule for each key of a table that sorts so, and the rule for their order.
+fn key_rules(sort: Sort) -> (Rule, Rule) {
+    match sort {
+        Sort::Bytes => (Rule::KeyEmpty, Rule::KeysRising),
+        Sort::Numbers => (Rule::OffsetLength, Rule::OffsetsRising),
+    }
 }
 
 /// "The table's span size, 2 to 128 (also for the superblock's)."

@@ -13,6 +13,7 @@ use crate::random::Random;
 use crate::reached::{self, held, Cases, Made};
 use crate::request::{Call, CallKind};
 use crate::script::{self, Script, Trend};
+use crate::sort::Sort;
 use std::collections::BTreeMap;
 
 /// How many calls a list has.
@@ -235,8 +236,9 @@ fn of_create(made: &Made<'_>) -> Vec<String> {
 /// skip-list page, a span and a head tower".
 fn of_done(made: &Made<'_>, name: &[u8]) -> Vec<String> {
     let (before, after) = (made.before, made.after);
-    let mut in_names = reached::of_entries(&after.meta, name);
-    in_names.extend(putting::of_spans(&before.meta, &after.meta, name));
+    let sort = Sort::Bytes;
+    let mut in_names = reached::of_entries(&after.meta, sort, name);
+    in_names.extend(putting::of_spans(&before.meta, &after.meta, sort, name));
     let is_full = after.free_pages() == 0;
     let is_split = after.meta.spans.len() > before.meta.spans.len();
     let has_tower = after.meta.levels() > before.meta.levels();
@@ -264,7 +266,7 @@ fn of_done(made: &Made<'_>, name: &[u8]) -> Vec<String> {
 fn of_no_room(before: &Layout, name: &[u8]) -> Vec<String> {
     let short = edit::create_lacks(before, name);
     let meta = &before.meta;
-    let target = &meta.spans[meta.target(name)];
+    let target = &meta.spans[meta.target(Sort::Bytes, name)];
     let is_split = target.entries.len() == usize::from(meta.span_size);
     held(&[
         ("create one page short", short == 1),

@@ -14,6 +14,7 @@ use crate::page::{
 };
 use crate::random::Random;
 use crate::rule::Rule;
+use crate::sort::Sort;
 
 /// An image in which the rule is broken, where that can be made of this one.
 pub fn damage(random: &mut Random, sample: &Sample, rule: Rule) -> Option<Vec<u8>> {
@@ -84,6 +85,8 @@ impl Work<'_> {
             Rule::TooManyContinuations => self.too_many_continuations(),
             Rule::KeyEmpty => self.key_empty(),
             Rule::KeysRising => self.keys_rising(),
+            Rule::OffsetLength => self.offset_length(),
+            Rule::OffsetsRising => self.offsets_rising(),
             Rule::NameLength => self.name_length(),
             Rule::NameByte => self.name_byte(),
             Rule::TableValue => self.table_value(),
@@ -167,12 +170,22 @@ impl Work<'_> {
 
     /// The place (for `table_mut`) of a table for which the condition holds.
     fn place_where(&mut self, holds: impl Fn(&Table) -> bool) -> Option<usize> {
-        let numbered = self.layout.all_tables().enumerate();
+        self.place_sorted(|_, table| holds(table))
+    }
+
+    /// The same, with a condition also on how the keys of the table sort.
+    fn place_sorted(&mut self, holds: impl Fn(Sort, &Table) -> bool) -> Option<usize> {
+        let numbered = self.layout.sorted_tables().enumerate();
         let places: Vec<usize> = numbered
-            .filter(|(_, table)| holds(table))
+            .filter(|(_, (sort, table))| holds(*sort, table))
             .map(|(place, _)| place)
             .collect();
         self.choose(&places)
+    }
+
+    /// The place of an offset table with at least so many keys.
+    fn offset_table(&mut self, keys: usize) -> Option<usize> {
+        self.place_sorted(|sort, table| sort == Sort::Numbers && table.keys() >= keys)
     }
 
     /// A table for which the condition holds.
@@ -449,7 +462,9 @@ impl Work<'_> {
             let first = table.entries().next();
             first.is_some_and(|entry| entry.key.len() + entry.value.len() <= MAX_LENGTH)
         };
-        let place = self.place_where(|table| table.root != METAINDEX && fits(table))?;
+        let place = self.place_sorted(|sort, table| {
+            sort == Sort::Bytes && table.root != METAINDEX && fits(table)
+        })?;
         let spans = &mut self.layout.table_mut(place).spans;
         let entry = spans.iter_mut().flat_map(|span| &mut span.entries).next()?;
         let mut value = std::mem::take(&mut entry.key);
@@ -460,7 +475,7 @@ impl Work<'_> {
 
     /// Makes a key equal to the one before, or one greater than the key after.
     fn keys_rising(&mut self) -> Option<()> {
-        let place = self.place_where(|table| table.keys() > 1)?;
+        let place = self.place_sorted(|sort, table| sort == Sort::Bytes && table.keys() > 1)?;
         let highest = if place == 0 { 0x7e } else { 0xff };
         let equal = self.random.percent(50);
         let lengths: Vec<usize> = self
@@ -483,6 +498,51 @@ impl Work<'_> {
         }
         if lower.key < upper.key {
             return None;
+        }
+        self.write_layout()
+    }
+
+    /// Cuts or lengthens one key of an offset table, or all of them. A key that is lengthened stays in
+    /// its place in the order of bytes.
+    fn offset_length(&mut self) -> Option<()> {
+        let place = self.offset_table(1)?;
+        let length = *self.random.pick(&[0, 1, 2, 3, 5, 5, 6, 8, 1500]);
+        let keys = self.layout.table_mut(place).keys();
+        let one = self.random.below(keys);
+        let all = self.random.percent(30);
+        let spans = self.layout.table_mut(place).spans.iter_mut();
+        let entries = spans.flat_map(|span| &mut span.entries).enumerate();
+        for (_, entry) in entries.filter(|(at, _)| all || *at == one) {
+            entry.key.resize(length, 0);
+        }
+        for span in 0..self.layout.table_mut(place).spans.len() {
+            self.refit(place, span)?;
+        }
+        self.write_layout()
+    }
+
+    /// Brings the keys of an offset table into the order of their bytes, makes one equal to the one
+    /// before, or exchanges two neighbours, also those at a border of two spans. All keys have four
+    /// bytes, so that nothing else changes.
+    fn offsets_rising(&mut self) -> Option<()> {
+        let place = self.offset_table(2)?;
+        let table = self.layout.table_mut(place);
+        let old: Vec<Vec<u8>> = table.entries().map(|entry| entry.key.clone()).collect();
+        let first = table.spans[0].entries.len();
+        let mut keys = old.clone();
+        let at = self.random.within(1..=keys.len() - 1);
+        match self.random.below(5) {
+            0 | 1 => keys.sort(),
+            2 => keys[at] = keys[at - 1].clone(),
+            3 if (1..keys.len()).contains(&first) => keys.swap(first - 1, first),
+            _ => keys.swap(at - 1, at),
+        }
+        if keys == old {
+            return None;
+        }
+        let spans = self.layout.table_mut(place).spans.iter_mut();
+        for (entry, key) in spans.flat_map(|span| &mut span.entries).zip(keys) {
+            entry.key = key;
         }
         self.write_layout()
     }

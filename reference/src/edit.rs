@@ -9,6 +9,7 @@ use crate::entries::{self, Entry};
 use crate::free;
 use crate::layout::{Layout, Span, Table, Tower};
 use crate::page;
+use crate::sort::Sort;
 
 /// "Put, create: wanted pages exceed the old continuation pages plus F"; for remove "10 is no longer
 /// listed" (document 02, T-07).
@@ -37,15 +38,16 @@ struct Drawn {
     left_over: Vec<u32>,
 }
 
-/// Puts a value under a key of a table.
+/// Puts a value under a key of a table that sorts so.
 pub fn put(
     image: &mut [u8],
     free: usize,
     table: &mut Table,
+    sort: Sort,
     key: &[u8],
     value: &[u8],
 ) -> Result<(), NoRoom> {
-    let plan = plan_put(table, key, value);
+    let plan = plan_put(table, sort, key, value);
     let mut drawn = draw(image, free, table, &plan, 0)?;
     let split = plan.split.is_some();
     let place = settle(table, plan, &mut drawn);
@@ -54,11 +56,11 @@ pub fn put(
     Ok(())
 }
 
-/// Removes a key that is there from a table. "Taking an entry out never makes the others reach
+/// Removes a key that is there from a table that sorts so. "Taking an entry out never makes the others reach
 /// further, page breaks included" (document 02, T-07): those left have the first of the span's
 /// continuation pages, and the others are given back.
-pub fn remove(image: &mut [u8], table: &mut Table, key: &[u8]) {
-    let place = table.target(key);
+pub fn remove(image: &mut [u8], table: &mut Table, sort: Sort, key: &[u8]) {
+    let place = table.target(sort, key);
     let span = &mut table.spans[place];
     span.entries.retain(|entry| entry.key != key);
     if span.entries.is_empty() && place != 0 {
@@ -77,7 +79,7 @@ pub fn remove(image: &mut [u8], table: &mut Table, key: &[u8]) {
 pub fn create(image: &mut [u8], layout: &mut Layout, name: &[u8]) -> Result<(), NoRoom> {
     let free = layout.free_pages();
     let meta = &mut layout.meta;
-    let plan = plan_put(meta, name, &[0; 4]);
+    let plan = plan_put(meta, Sort::Bytes, name, &[0; 4]);
     let mut drawn = draw(image, free, meta, &plan, NEW_TABLE)?;
     let split = plan.split.is_some();
     let place = settle(meta, plan, &mut drawn);
@@ -91,10 +93,10 @@ pub fn create(image: &mut [u8], layout: &mut Layout, name: &[u8]) -> Result<(), 
 
 /// "A key present has its value replaced. A new key joins its target; if the target is at max
 /// keys, it is split."
-fn plan_put(table: &Table, key: &[u8], value: &[u8]) -> Plan {
-    let place = table.target(key);
+fn plan_put(table: &Table, sort: Sort, key: &[u8], value: &[u8]) -> Plan {
+    let place = table.target(sort, key);
     let mut entries = table.spans[place].entries.clone();
-    let found = entries.binary_search_by(|entry| entry.key.as_slice().cmp(key));
+    let found = entries.binary_search_by(|entry| sort.compare(&entry.key, key));
     let full = entries.len() == usize::from(table.span_size);
     let value = value.to_vec();
     let split = match found {
@@ -144,7 +146,7 @@ fn wanted(plan: &Plan) -> usize {
 /// By how many a create's "wanted pages exceed the old continuation pages plus F"; 0 where there is
 /// room.
 pub fn create_lacks(layout: &Layout, name: &[u8]) -> usize {
-    let plan = plan_put(&layout.meta, name, &[0; 4]);
+    let plan = plan_put(&layout.meta, Sort::Bytes, name, &[0; 4]);
     let old = layout.meta.spans[plan.place].continuations.len();
     (wanted(&plan) + NEW_TABLE).saturating_sub(old + layout.free_pages())
 }

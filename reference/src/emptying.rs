@@ -10,6 +10,7 @@ use crate::reached::{self, held, Cases, Made};
 use crate::removing;
 use crate::request::{Call, Request};
 use crate::script::Script;
+use crate::sort::Sort;
 
 /// After how many removes a card has to be still full.
 const STILL_FULL: [usize; 4] = [2, 10, 30, 100];
@@ -199,7 +200,7 @@ fn of_call(made: &Made<'_>, earlier: &[Call]) -> Vec<String> {
     if let Some(place) = made.before.find(name) {
         let (old, new) = (&made.before.tables[place].1, &made.after.tables[place].1);
         cases.extend(held(&[("last key of a table removed", new.keys() == 0)]));
-        cases.extend(of_entry(old, key));
+        cases.extend(of_entry(old, Sort::of(name), key));
     }
     cases.extend(removing::of_remove(made));
     cases.iter().map(|case| on_full(case)).collect()
@@ -207,9 +208,10 @@ fn of_call(made: &Made<'_>, earlier: &[Call]) -> Vec<String> {
 
 /// Where the removed entry lies on the pages of its span, and what comes of the few bytes that are
 /// left on a page before a later one.
-fn of_entry(table: &Table, key: &[u8]) -> Vec<String> {
-    let mut earlier = table.spans[table.target(key)].entries.clone();
-    let mut later = earlier.split_off(earlier.partition_point(|entry| entry.key.as_slice() < key));
+fn of_entry(table: &Table, sort: Sort, key: &[u8]) -> Vec<String> {
+    let mut earlier = table.spans[table.target(sort, key)].entries.clone();
+    let is_below = |entry: &Entry| sort.compare(&entry.key, key).is_lt();
+    let mut later = earlier.split_off(earlier.partition_point(is_below));
     let removed = later.remove(0);
     let at = entries::end(&earlier);
     let value_at = at.after_entry(key.len(), 0);

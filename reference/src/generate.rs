@@ -7,8 +7,10 @@
 use crate::encode;
 use crate::entries::{self, Entry, Place, MAX_LENGTH};
 use crate::layout::{Block, Layout, Span, Table, Tower};
+use crate::numbers;
 use crate::page::{self, Kind, MARKS, MAX_NUMBERS, METAINDEX, PAGE};
 use crate::random::Random;
+use crate::sort::Sort;
 use std::collections::BTreeSet;
 use std::ops::RangeInclusive;
 
@@ -28,7 +30,7 @@ pub struct Knobs {
     pub span_sizes: Vec<u16>,
     /// Entries wanted in a span.
     pub fill: RangeInclusive<usize>,
-    /// Of a hundred values, how many end within 5 bytes of a page's end.
+    /// Of a hundred values, how many end so that fewer than `NEAR_END` bytes are left on the page.
     pub near_page_end: usize,
     /// Of a hundred keys and values, how many are long.
     pub long: usize,
@@ -218,6 +220,7 @@ pub fn full_spans(
 ) -> Sample {
     let knobs = Knobs::full_of_towers();
     let names = names(random, 1);
+    let sort = Sort::of(&names[0]);
     let meta = draft(random, &knobs, names, true, 2 * TABLE_PAGES);
     let height = random.within(0..=max.min(12));
     let mut table = Table {
@@ -231,7 +234,7 @@ pub fn full_spans(
         let keys = first..first + usize::from(span_size);
         let tower = draft_tower(random, &knobs, &table.head, place == 0);
         let entry = |number: usize| Entry {
-            key: (2 * number as u32 + 1).to_be_bytes().to_vec(),
+            key: odd_key(sort, number, spans * usize::from(span_size)),
             value: random.bytes(number % 3),
         };
         let entries: Vec<Entry> = keys.map(entry).collect();
@@ -246,6 +249,16 @@ pub fn full_spans(
     let pages = used(&meta, &tables) + free;
     let layout = number(random, &[span_size], pages, meta, tables);
     over_garbage(random, layout)
+}
+
+/// Key `place` of so many: odd numbers, so that there is room between them; in an offset table half of
+/// them are below 0.
+fn odd_key(sort: Sort, place: usize, count: usize) -> Vec<u8> {
+    let below = match sort {
+        Sort::Bytes => 0,
+        Sort::Numbers => count - count % 2,
+    };
+    numbers::key(2 * place as i32 + 1 - below as i32)
 }
 
 /// The image of a layout, with garbage in its unused bytes.
@@ -330,14 +343,14 @@ fn draft_tables(random: &mut Random, knobs: &Knobs, budget: usize) -> (Table, Ve
     let meta = draft(random, knobs, names, true, for_meta);
     let mut rest = budget - cost(&meta) - TABLE_PAGES * meta.keys();
     let mut tables = Vec::new();
-    for _ in 0..meta.keys() {
+    for name in meta.entries() {
         let share = match random.below(4) {
             0 => 0,
             1 => rest / 4,
             2 => rest / 2,
             _ => rest,
         };
-        let keys = keys(random, knobs);
+        let keys = keys(random, Sort::of(&name.key), knobs);
         let table = draft(random, knobs, keys, false, TABLE_PAGES + share);
         rest -= cost(&table) - TABLE_PAGES;
         tables.push(table);
@@ -463,8 +476,8 @@ fn draft_entries(
     entries
 }
 
-/// The length of a value that begins at this place: short, long, or such that 0 to 5 bytes are
-/// left on the page where it ends.
+/// The length of a value that begins at this place: short, long, or such that few bytes are left on
+/// the page where it ends.
 fn value_length(random: &mut Random, knobs: &Knobs, at: Place) -> usize {
     if random.percent(knobs.near_page_end) {
         return length_to_page_end(random, at);
@@ -475,9 +488,13 @@ fn value_length(random: &mut Random, knobs: &Knobs, at: Place) -> usize {
     *random.pick(&[0, 1, 4, 32, 40])
 }
 
-/// A length after which 0 to 5 bytes are left on a page.
+/// So many bytes or more left on a page are not few. With up to eight, the lengths of the next entry
+/// and a key of four bytes end the page, are cut at each byte, or go to the next page.
+pub const NEAR_END: usize = 9;
+
+/// A length after which few bytes are left on a page.
 pub fn length_to_page_end(random: &mut Random, at: Place) -> usize {
-    let left = random.below(6);
+    let left = random.below(NEAR_END);
     let here = if at.left() < left {
         at.left() + PAGE - page::continuation::DATA
     } else {
@@ -502,8 +519,14 @@ fn names(random: &mut Random, wanted: usize) -> Vec<Vec<u8>> {
     names.into_iter().collect()
 }
 
-/// A legal table name.
+/// Names that begin with "#", and one that only has it.
+pub const OFFSET_NAMES: [&[u8]; 5] = [b"#", b"#a", b"##", b"#sync", b"a#"];
+
+/// A legal table name; one in four is that of an offset table.
 pub fn name(random: &mut Random) -> Vec<u8> {
+    if random.percent(20) {
+        return random.pick(&OFFSET_NAMES).to_vec();
+    }
     let length = match random.below(10) {
         0 => 255,
         1 => random.within(100..=254),
@@ -520,18 +543,26 @@ pub fn name(random: &mut Random) -> Vec<u8> {
 }
 
 /// Distinct keys in rising order, for the spans wanted.
-fn keys(random: &mut Random, knobs: &Knobs) -> Vec<Vec<u8>> {
+fn keys(random: &mut Random, sort: Sort, knobs: &Knobs) -> Vec<Vec<u8>> {
     let spans = random.within(knobs.spans.clone());
     let wanted = match random.below(8) {
         0 => 0,
         _ => (0..spans).map(|_| random.within(knobs.fill.clone())).sum(),
     };
+    match sort {
+        Sort::Bytes => rising_bytes(random, knobs, wanted),
+        Sort::Numbers => numbers::rising(random, wanted),
+    }
+}
+
+/// So many keys, or fewer where some come twice, in the order of their bytes.
+fn rising_bytes(random: &mut Random, knobs: &Knobs, wanted: usize) -> Vec<Vec<u8>> {
     let mut keys = BTreeSet::new();
     let mut last = Vec::new();
     for _ in 0..wanted {
         let key = match random.below(4) {
             0 => longer(random, &last),
-            _ => key(random, knobs),
+            _ => key_of_bytes(random, knobs),
         };
         last.clone_from(&key);
         keys.insert(key);
@@ -547,8 +578,16 @@ fn longer(random: &mut Random, key: &[u8]) -> Vec<u8> {
     longer
 }
 
-/// A legal key: few different bytes, so that keys are near to one another.
-pub fn key(random: &mut Random, knobs: &Knobs) -> Vec<u8> {
+/// A key that a table which sorts so may hold.
+pub fn key(random: &mut Random, sort: Sort, knobs: &Knobs) -> Vec<u8> {
+    match sort {
+        Sort::Bytes => key_of_bytes(random, knobs),
+        Sort::Numbers => numbers::any_key(random),
+    }
+}
+
+/// A key of few different bytes, so that keys are near to one another.
+fn key_of_bytes(random: &mut Random, knobs: &Knobs) -> Vec<u8> {
     let few: &[u8] = &[0x00, 0x01, 0x7f, 0x80, 0xff, b'c', b'a'];
     if random.percent(knobs.long / 2) {
         let mut key = vec![*random.pick(few); long_length(random, knobs)];

@@ -2,6 +2,7 @@
 
 use crate::entries::Entry;
 use crate::page::{Kind, SUPERBLOCK};
+use crate::sort::Sort;
 
 /// An image: everything but its unused bytes.
 #[derive(Clone, Debug, PartialEq, Eq)]
@@ -76,7 +77,14 @@ impl Layout {
 
     /// The metaindex and all tables.
     pub fn all_tables(&self) -> impl Iterator<Item = &Table> {
-        std::iter::once(&self.meta).chain(self.tables.iter().map(|(_, table)| table))
+        self.sorted_tables().map(|(_, table)| table)
+    }
+
+    /// The metaindex and all tables, each with how its keys sort.
+    pub fn sorted_tables(&self) -> impl Iterator<Item = (Sort, &Table)> {
+        let tables = self.tables.iter();
+        let named = tables.map(|(name, table)| (Sort::of(name), table));
+        std::iter::once((Sort::Bytes, &self.meta)).chain(named)
     }
 
     /// Every page with the kind it is owned as.
@@ -129,17 +137,18 @@ impl Table {
     }
 
     /// "Next gives the smallest key above the one asked."
-    pub fn above(&self, key: &[u8]) -> Option<&[u8]> {
-        let entry = self.entries().find(|entry| entry.key.as_slice() > key);
+    pub fn above(&self, sort: Sort, key: &[u8]) -> Option<&[u8]> {
+        let is_above = |entry: &&Entry| sort.compare(&entry.key, key).is_gt();
+        let entry = self.entries().find(is_above);
         entry.map(|entry| entry.key.as_slice())
     }
 
     /// "Target span of a key: the last non-empty span whose first key is not above it; if none,
     /// the first span."
-    pub fn target(&self, key: &[u8]) -> usize {
+    pub fn target(&self, sort: Sort, key: &[u8]) -> usize {
         let not_above = |span: &Span| {
             let first = span.entries.first();
-            first.is_some_and(|entry| entry.key.as_slice() <= key)
+            first.is_some_and(|entry| sort.compare(&entry.key, key).is_le())
         };
         self.spans.iter().rposition(not_above).unwrap_or(0)
     }

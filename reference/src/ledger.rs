@@ -2,9 +2,10 @@
 
 use crate::layout::{Layout, Table};
 use crate::request::{Call, Request};
+use crate::sort::Sort;
 use std::collections::BTreeMap;
 
-/// A finite map from keys to values.
+/// A finite map from keys to values. Its order is no table's: only next goes by that.
 pub type Map = BTreeMap<Vec<u8>, Vec<u8>>;
 /// Table names, each with its map.
 pub type Tables = BTreeMap<Vec<u8>, Map>;
@@ -144,8 +145,8 @@ impl Ledger {
         match call {
             Call::Get { name, key } => self.value(name, key),
             Call::Next { name, key } => {
-                let mut keys = self.tables.get(name)?.keys();
-                keys.find(|other| *other > key).cloned()
+                let keys = self.tables.get(name)?.keys().map(Vec::as_slice);
+                Sort::of(name).above(keys, key).map(<[u8]>::to_vec)
             }
             _ => None,
         }
@@ -193,14 +194,15 @@ impl Ledger {
     }
 }
 
-/// "table name not as above; key empty (but for next) or over 65,535"
+/// "table name not as above; key empty (but for next) or over 65,535"; "also for a key of another
+/// length under such a name, table there or not (next may still be empty)" (document 02, T-05)
 fn bad_name_or_key(call: &Call) -> bool {
     match call {
         Call::Check => false,
         Call::Create { name } => bad_name(name),
-        Call::Next { name, key } => bad_name(name) || key.len() > 65_535,
+        Call::Next { name, key } => bad_name(name) || !key.is_empty() && bad_key(name, key),
         Call::Get { name, key } | Call::Put { name, key, .. } | Call::Remove { name, key } => {
-            bad_name(name) || key.is_empty() || key.len() > 65_535
+            bad_name(name) || bad_key(name, key)
         }
     }
 }
@@ -208,6 +210,11 @@ fn bad_name_or_key(call: &Call) -> bool {
 /// "1 to 255 bytes of 21 to 7e hex"
 fn bad_name(name: &[u8]) -> bool {
     name.is_empty() || name.len() > 255 || !name.iter().all(u8::is_ascii_graphic)
+}
+
+/// A key that the table of this name may not hold.
+fn bad_key(name: &[u8], key: &[u8]) -> bool {
+    !Sort::of(name).allows(key)
 }
 
 /// "value over 65,535"

@@ -8,6 +8,7 @@ use crate::check;
 use crate::entries::{continuations, Entry, MAX_LENGTH};
 use crate::layout::{Layout, Table, Tower};
 use crate::page::{MAX_NUMBERS, MAX_PAGES, METAINDEX, MIN_PAGES};
+use crate::sort::Sort;
 
 /// Whether the layout that a walk finds on the image, well-formed or not, is legal and says every
 /// used byte.
@@ -28,7 +29,9 @@ pub fn legal(layout: &Layout) -> bool {
             .free
             .iter()
             .all(|block| block.listed.len() <= MAX_NUMBERS)
-        && layout.all_tables().all(legal_table)
+        && layout
+            .sorted_tables()
+            .all(|(sort, table)| legal_table(sort, table))
         && legal_names(layout)
 }
 
@@ -45,14 +48,17 @@ fn legal_names(layout: &Layout) -> bool {
         && layout.meta.entries().zip(&layout.tables).all(named)
 }
 
-fn legal_table(table: &Table) -> bool {
+fn legal_table(sort: Sort, table: &Table) -> bool {
     let keys: Vec<&[u8]> = table.entries().map(|entry| &entry.key[..]).collect();
     let Some((first, others)) = table.spans.split_first() else {
         return false;
     };
     matches!(table.span_size, 2..=128)
-        && table.entries().all(legal_entry)
-        && keys.windows(2).all(|pair| pair[0] < pair[1])
+        && keys.iter().all(|key| sort.allows(key))
+        && keys
+            .windows(2)
+            .all(|pair| sort.compare(pair[0], pair[1]).is_lt())
+        && table.entries().all(|entry| entry.value.len() <= MAX_LENGTH)
         && others.iter().all(|span| !span.entries.is_empty())
         && table.spans.iter().all(|span| {
             span.entries.len() <= usize::from(table.span_size)
@@ -63,10 +69,6 @@ fn legal_table(table: &Table) -> bool {
         && table
             .towers()
             .all(|tower| legal_tower(tower) && (1..=table.head.height).contains(&tower.height))
-}
-
-fn legal_entry(entry: &Entry) -> bool {
-    (1..=MAX_LENGTH).contains(&entry.key.len()) && entry.value.len() <= MAX_LENGTH
 }
 
 fn legal_tower(tower: &Tower) -> bool {

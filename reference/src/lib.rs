@@ -25,6 +25,7 @@ pub mod ledger;
 pub mod legal;
 #[cfg(feature = "library")]
 pub mod library;
+pub mod numbers;
 pub mod page;
 pub mod pairs;
 pub mod program;
@@ -37,5 +38,6 @@ pub mod request;
 pub mod rule;
 pub mod samples;
 pub mod script;
+pub mod sort;
 pub mod theorems;
 pub mod twin;

@@ -6,11 +6,13 @@ use crate::entries::{self, Place, MAX_LENGTH};
 use crate::events;
 use crate::generate::{self, Knobs, Sample};
 use crate::layout::{Layout, Span, Table};
+use crate::numbers;
 use crate::page::{continuation, MAX_NUMBERS, PAGE};
 use crate::random::Random;
 use crate::reached::{self, held, Cases, Made};
 use crate::request::{Call, CallKind};
 use crate::script::Script;
+use crate::sort::Sort;
 use std::cmp::Ordering;
 use std::collections::BTreeSet;
 
@@ -136,8 +138,9 @@ fn put(random: &mut Random, layout: &Layout) -> Option<Call> {
         return None;
     }
     let (name, table) = random.pick(&layout.tables);
-    let key = some_key(random, table);
-    let length = value_length(random, layout, table, &key);
+    let sort = Sort::of(name);
+    let key = some_key(random, sort, table);
+    let length = value_length(random, layout, sort, table, &key);
     Some(Call::Put {
         name: name.clone(),
         value: random.bytes(length),
@@ -155,15 +158,18 @@ pub fn crowded_span<'a>(random: &mut Random, table: &'a Table) -> &'a Span {
 }
 
 /// A key of a span, or one behind it; any for an empty span.
-fn some_key(random: &mut Random, table: &Table) -> Vec<u8> {
+fn some_key(random: &mut Random, sort: Sort, table: &Table) -> Vec<u8> {
     let entries = &crowded_span(random, table).entries;
     if entries.is_empty() {
-        return generate::key(random, &Knobs::tiny());
+        return generate::key(random, sort, &Knobs::tiny());
     }
     let there = &random.pick(entries).key;
-    match random.percent(35) {
-        true => there.clone(),
-        false => behind(random, there),
+    if random.percent(35) {
+        return there.clone();
+    }
+    match sort {
+        Sort::Bytes => behind(random, there),
+        Sort::Numbers => numbers::beside(random, there),
     }
 }
 
@@ -181,12 +187,18 @@ fn behind(random: &mut Random, key: &[u8]) -> Vec<u8> {
 
 /// The length of a value: such that it ends near the end of a page, or that the span takes all free
 /// pages or one more than there are, or any.
-fn value_length(random: &mut Random, layout: &Layout, table: &Table, key: &[u8]) -> usize {
-    let span = &table.spans[table.target(key)];
+fn value_length(
+    random: &mut Random,
+    layout: &Layout,
+    sort: Sort,
+    table: &Table,
+    key: &[u8],
+) -> usize {
+    let span = &table.spans[table.target(sort, key)];
     let before: Vec<_> = span
         .entries
         .iter()
-        .filter(|entry| entry.key.as_slice() < key)
+        .filter(|entry| sort.compare(&entry.key, key).is_lt())
         .cloned()
         .collect();
     let at = entries::end(&before).after_entry(key.len(), 0);
@@ -224,8 +236,9 @@ fn of_put(made: &Made<'_>) -> Vec<String> {
     ]);
     if made.number == 0 {
         let (old, new) = (&made.before.tables[place].1, &made.after.tables[place].1);
-        cases.extend(reached::of_entries(new, key));
-        cases.extend(of_spans(old, new, key));
+        let sort = Sort::of(name);
+        cases.extend(reached::of_entries(new, sort, key));
+        cases.extend(of_spans(old, new, sort, key));
         cases.extend(reached::of_taking(made.before, made.after));
         let events = events::events(made.before, made.after);
         cases.extend(events.into_iter().map(str::to_owned));
@@ -234,8 +247,8 @@ fn of_put(made: &Made<'_>) -> Vec<String> {
 }
 
 /// What became of the target span: its value replaced, its keys one more, or split.
-pub fn of_spans(old: &Table, new: &Table, key: &[u8]) -> Vec<String> {
-    let place = old.target(key);
+pub fn of_spans(old: &Table, new: &Table, sort: Sort, key: &[u8]) -> Vec<String> {
+    let place = old.target(sort, key);
     let (was, is) = (&old.spans[place], &new.spans[place]);
     if old.value(key).is_some() {
         let pages = match is.continuations.len().cmp(&was.continuations.len()) {

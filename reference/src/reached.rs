@@ -3,12 +3,13 @@
 use crate::check::check;
 use crate::encode;
 use crate::entries::Place;
-use crate::generate::Sample;
+use crate::generate::{Sample, NEAR_END};
 use crate::layout::{Layout, Table};
 use crate::ledger::{tables_of, Ledger};
 use crate::random::Random;
 use crate::request::{Call, CallKind, Request};
 use crate::script::{self, Script, Trend};
+use crate::sort::Sort;
 use std::collections::BTreeMap;
 
 /// How often each case was reached.
@@ -105,15 +106,18 @@ pub fn mostly(
 /// These cases, those of the ends of pages, and more.
 pub fn with_page_ends(fixed: &[&str], more: impl Iterator<Item = String>) -> Vec<String> {
     let fixed = fixed.iter().map(|case| (*case).to_owned());
-    fixed.chain((0..6).map(left_before)).chain(more).collect()
+    fixed
+        .chain((0..NEAR_END).map(left_before))
+        .chain(more)
+        .collect()
 }
 
 /// Where the entries of the key's span lie on its pages.
-pub fn of_entries(table: &Table, key: &[u8]) -> Vec<String> {
+pub fn of_entries(table: &Table, sort: Sort, key: &[u8]) -> Vec<String> {
     let mut cases = Vec::new();
     let mut place = Place::START;
-    for entry in &table.spans[table.target(key)].entries {
-        if place.left() < 6 {
+    for entry in &table.spans[table.target(sort, key)].entries {
+        if place.left() < NEAR_END {
             cases.push(left_before(place.left()));
         }
         let key_at = place.lengths().after(4);

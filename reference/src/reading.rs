@@ -3,10 +3,12 @@
 use crate::entries::MAX_LENGTH;
 use crate::generate::{self, Knobs, Sample};
 use crate::ledger::{tables_of, Ledger, Tables};
+use crate::numbers;
 use crate::page::PAGE;
 use crate::random::Random;
 use crate::request::{Call, Request};
 use crate::script::Script;
+use crate::sort::Sort;
 
 /// The greatest length of a name or key that is asked with.
 pub const LONGEST: usize = 70_000;
@@ -141,6 +143,7 @@ fn any_read(random: &mut Random, tables: &Tables) -> Call {
     let key = match random.below(10) {
         0..=3 => key,
         4 => Vec::new(),
+        5..=7 if Sort::of(&name) == Sort::Numbers => numbers::beside(random, &key),
         _ => near_to(random, key),
     };
     match random.percent(50) {
@@ -161,7 +164,7 @@ fn some_key(random: &mut Random, tables: &Tables, name: &[u8]) -> Vec<u8> {
     let map = tables.get(name);
     let place = random.below(map.map_or(0, |map| map.len()).max(1));
     let there = map.and_then(|map| map.keys().nth(place).cloned());
-    there.unwrap_or_else(|| generate::key(random, &Knobs::mixed()))
+    there.unwrap_or_else(|| generate::key(random, Sort::of(name), &Knobs::mixed()))
 }
 
 /// Cut, lengthened, or with another byte.

@@ -11,6 +11,7 @@ use crate::random::Random;
 use crate::reached::{self, held, Cases, Made};
 use crate::request::{Call, CallKind};
 use crate::script::Script;
+use crate::sort::Sort;
 use std::collections::BTreeSet;
 
 /// How many calls a list has.
@@ -147,14 +148,15 @@ pub fn of_remove(made: &Made<'_>) -> Vec<String> {
         return Vec::new();
     };
     let (old, new) = (&made.before.tables[table].1, &made.after.tables[table].1);
-    let place = old.target(key);
+    let sort = Sort::of(name);
+    let place = old.target(sort, key);
     let mut cases = of_key(old, place, key);
     let given = if new.spans.len() < old.spans.len() {
         cases.extend(of_unlinking(old, place));
         given_span(&old.spans[place])
     } else {
         cases.extend(of_rewriting(old, new, place));
-        cases.extend(reached::of_entries(new, key));
+        cases.extend(reached::of_entries(new, sort, key));
         let kept = new.spans[place].continuations.len();
         continuations(&old.spans[place].continuations[kept..])
     };

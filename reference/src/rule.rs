@@ -5,7 +5,7 @@ use std::fmt;
 /// Makes the enum `Rule`, the list of all rules, and what each says.
 macro_rules! rules {
     ($($name:ident: $says:expr;)*) => {
-        /// A rule of document 01 that an image can break.
+        /// A rule of document 01, or of T-05 of document 02, that an image can break.
         #[derive(Clone, Copy, Debug, PartialEq, Eq, PartialOrd, Ord, Hash)]
         pub enum Rule {
             $(#[doc = $says] $name,)*
@@ -61,6 +61,8 @@ rules! {
 
     KeyEmpty: "a key is not empty";
     KeysRising: "keys increase strictly through the whole table";
+    OffsetLength: "a key of an offset table has exactly four bytes";
+    OffsetsRising: "keys of an offset table increase strictly as numbers";
 
     NameLength: "a table name has 1 to 255 bytes";
     NameByte: "a table name has bytes of 21 to 7e hex";

@@ -3,9 +3,11 @@
 use crate::entries::{Place, MAX_LENGTH};
 use crate::generate::{self, Knobs, Sample};
 use crate::ledger::{tables_of, Ledger, Map, Tables};
+use crate::numbers;
 use crate::page::PAGE;
 use crate::random::Random;
 use crate::request::{Call, CallKind, Request};
+use crate::sort::Sort;
 
 /// What most calls of a list do.
 #[derive(Clone, Copy, Debug, PartialEq, Eq)]
@@ -81,7 +83,7 @@ pub fn with_buffers(random: &mut Random, ledger: &Ledger, call: Call) -> Request
 fn answer_length(random: &mut Random, tables: &Tables, call: &Call) -> usize {
     let length = match call {
         Call::Get { name, key } => tables.get(name).and_then(|map| map.get(key)).map(Vec::len),
-        Call::Next { name, key } => tables.get(name).and_then(|map| next_length(map, key)),
+        Call::Next { name, key } => next_length(tables, name, key),
         _ => return 0,
     };
     let needed = length.unwrap_or(0);
@@ -94,10 +96,9 @@ fn answer_length(random: &mut Random, tables: &Tables, call: &Call) -> usize {
     }
 }
 
-fn next_length(map: &Map, key: &[u8]) -> Option<usize> {
-    map.keys()
-        .find(|other| other.as_slice() > key)
-        .map(Vec::len)
+fn next_length(tables: &Tables, name: &[u8], key: &[u8]) -> Option<usize> {
+    let keys = tables.get(name)?.keys().map(Vec::as_slice);
+    Sort::of(name).above(keys, key).map(<[u8]>::len)
 }
 
 /// A call on these tables, of a kind by the trend.
@@ -112,25 +113,25 @@ pub fn call(random: &mut Random, tables: &Tables, trend: Trend) -> Call {
         false => weighted(random, &weights),
     };
     let name = name(random, tables, kind == CallKind::Create);
-    let map = tables.get(&name);
+    let (sort, map) = (Sort::of(&name), tables.get(&name));
     match kind {
         CallKind::Check => Call::Check,
         CallKind::Create => Call::Create { name },
         CallKind::Get => {
-            let key = key(random, map, 70);
+            let key = key(random, sort, map, 70);
             Call::Get { name, key }
         }
         CallKind::Next => {
-            let key = next_key(random, map);
+            let key = next_key(random, sort, map);
             Call::Next { name, key }
         }
         CallKind::Remove => {
-            let key = key(random, map, 85);
+            let key = key(random, sort, map, 85);
             Call::Remove { name, key }
         }
         CallKind::Put => {
             let there = if trend == Trend::Filling { 15 } else { 40 };
-            let key = key(random, map, there);
+            let key = key(random, sort, map, there);
             let value = value(random, key.len());
             Call::Put { name, key, value }
         }
@@ -178,7 +179,7 @@ fn bad_name(random: &mut Random) -> Vec<u8> {
 
 /// A key: of a hundred, so many that are there; else one near to these, a new one, or one that is
 /// not legal.
-fn key(random: &mut Random, map: Option<&Map>, there: usize) -> Vec<u8> {
+fn key(random: &mut Random, sort: Sort, map: Option<&Map>, there: usize) -> Vec<u8> {
     match random.below(100) {
         0 => return Vec::new(),
         1 => return vec![b'k'; MAX_LENGTH + 1 + random.below(2)],
@@ -191,8 +192,9 @@ fn key(random: &mut Random, map: Option<&Map>, there: usize) -> Vec<u8> {
     });
     match near {
         Some(key) if random.percent(there) => key,
+        Some(key) if sort == Sort::Numbers && random.percent(50) => numbers::beside(random, &key),
         Some(key) if random.percent(60) => changed(random, key),
-        _ => generate::key(random, &Knobs::mixed()),
+        _ => generate::key(random, sort, &Knobs::mixed()),
     }
 }
 
@@ -214,11 +216,11 @@ fn changed(random: &mut Random, mut key: Vec<u8>) -> Vec<u8> {
 }
 
 /// A key for next, which may be empty.
-fn next_key(random: &mut Random, map: Option<&Map>) -> Vec<u8> {
+fn next_key(random: &mut Random, sort: Sort, map: Option<&Map>) -> Vec<u8> {
     if random.percent(20) {
         return Vec::new();
     }
-    key(random, map, 60)
+    key(random, sort, map, 60)
 }
 
 /// A value: mostly short, sometimes such that it ends near the end of a page if its entry is the

@@ -9,6 +9,7 @@ use reference::compare::{
 };
 use reference::entries::MAX_LENGTH;
 use reference::page::{bytes_mut, listed_number, tower, write_u16, write_u32};
+use reference::sort::Sort;
 use reference::twin::{self, Order, Slices};
 use std::cmp::Ordering;
 
@@ -290,7 +291,8 @@ fn a_remove_that_wants_the_continuation_pages_anew() {
 fn continuations(image: &[u8], name: &[u8], key: &[u8]) -> u64 {
     let layout = check(image).expect("well-formed");
     let table = &layout.tables[layout.find(name).expect("a table")].1;
-    table.spans[table.target(key)].continuations.len() as u64
+    let target = table.target(Sort::of(name), key);
+    table.spans[target].continuations.len() as u64
 }
 
 /// What is found of a wrong remove on lists of removes.
