@@ -293,10 +293,9 @@ fn of_life(created: &mut Created, made: &Made<'_>) -> Vec<String> {
         created.insert(name.to_vec(), false);
         return Vec::new();
     }
-    let (Some(emptied), Some(place)) = (created.get_mut(name), made.before.find(name)) else {
+    let (Some(emptied), Some((old, new))) = (created.get_mut(name), made.tables(name)) else {
         return Vec::new();
     };
-    let (old, new) = (&made.before.tables[place].1, &made.after.tables[place].1);
     let mut cases = vec![format!("{kind} in a created table: {number}")];
     if *emptied && old.keys() == 0 {
         cases.push(format!("{kind} in an emptied table: {number}"));

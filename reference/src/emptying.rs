@@ -120,7 +120,7 @@ fn towers() -> Knobs {
 }
 
 /// Cards with several entries of a span near the ends of its pages.
-fn page_ends() -> Knobs {
+pub fn page_ends() -> Knobs {
     Knobs {
         pages: 12..=40,
         tables: 1..=3,
@@ -197,8 +197,7 @@ fn of_call(made: &Made<'_>, earlier: &[Call]) -> Vec<String> {
     if is_full {
         cases.push(still_full(earlier.len() + 1));
     }
-    if let Some(place) = made.before.find(name) {
-        let (old, new) = (&made.before.tables[place].1, &made.after.tables[place].1);
+    if let Some((old, new)) = made.tables(name) {
         cases.extend(held(&[("last key of a table removed", new.keys() == 0)]));
         cases.extend(of_entry(old, Sort::of(name), key));
     }

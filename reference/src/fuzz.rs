@@ -11,6 +11,7 @@ use crate::generate::{self, Knobs, Sample};
 use crate::layout::Layout;
 use crate::ledger::{tables_of, Ledger, Said};
 use crate::legal;
+use crate::offsets;
 use crate::page;
 use crate::random::Random;
 use crate::reached::Cases;
@@ -31,6 +32,8 @@ pub struct Tally {
     pub events: BTreeMap<&'static str, u64>,
     /// What the lists that empty full cards reached.
     pub emptying: Cases,
+    /// What the lists on offset tables reached.
+    pub offsets: Cases,
     /// Damaged images by rule.
     pub damaged: BTreeMap<Rule, Damaged>,
     /// Images with some bytes set anew that were accepted, and that were rejected.
@@ -61,6 +64,7 @@ pub fn fuzz(seed: u64, count: u64) -> Result<Tally, Failure> {
         let failure = |what| Failure { seed, what };
         run_list(script::script(seed, CALLS), &mut tally).map_err(failure)?;
         run_emptying(seed, &mut tally).map_err(failure)?;
+        run_offsets(seed, &mut tally).map_err(failure)?;
         run_damage(seed, &mut tally).map_err(failure)?;
     }
     Ok(tally)
@@ -72,6 +76,14 @@ fn run_emptying(seed: u64, tally: &mut Tally) -> Result<(), String> {
     let left = run_list(script, tally).map_err(|what| format!("emptying, {what}"))?;
     emptying::nothing_left(&left)?;
     add_all(&mut tally.emptying, cases);
+    Ok(())
+}
+
+/// The list of this seed on offset tables.
+fn run_offsets(seed: u64, tally: &mut Tally) -> Result<(), String> {
+    let (script, cases) = offsets::script(seed);
+    run_list(script, tally).map_err(|what| format!("offsets, {what}"))?;
+    add_all(&mut tally.offsets, cases);
     Ok(())
 }
 

@@ -26,6 +26,7 @@ pub mod legal;
 #[cfg(feature = "library")]
 pub mod library;
 pub mod numbers;
+pub mod offsets;
 pub mod page;
 pub mod pairs;
 pub mod program;

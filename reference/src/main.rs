@@ -4,7 +4,9 @@ use reference::compare::programs::{Program, TWIN};
 use reference::compare::{self, tally};
 use reference::fuzz::{self, Failure, Tally};
 use reference::rule::Rule;
-use reference::{bench, emit, emptying, events, explain, program, samples, theorems as text};
+use reference::{
+    bench, emit, emptying, events, explain, offsets, program, samples, theorems as text,
+};
 use std::env;
 use std::fs;
 use std::path::Path;
@@ -14,7 +16,8 @@ const USAGE: &str = "usage:
   reference check FILE          the program's line for this image
   reference explain FILE        the layout, or every broken rule
   reference emit DIR SEED N     N images with the program's lines
-  reference fuzz SEED N         N lists of calls, N that empty full cards, N damaged images
+  reference fuzz SEED N         N lists of calls, N that empty full cards, N on offset tables,
+                                N damaged images
   reference compare P SEED N    N images, lists of calls, pairs of keys against P, twin or library
   reference bench               times of the twin and the library, in Markdown
   reference samples DIR         the sample cards with the program's lines
@@ -71,8 +74,12 @@ fn fuzz(seed: &str, count: &str) -> Result<(), String> {
     let tally = fuzz::fuzz(seed, count).map_err(|failure| again("fuzz", failure))?;
     print!("{}", tally::calls_table(&tally.calls));
     print_events(&tally);
-    let cases = tally::cases_table(&tally.emptying, &emptying::all());
-    print!("{cases}");
+    for (reached, all) in [
+        (&tally.emptying, emptying::all()),
+        (&tally.offsets, offsets::all()),
+    ] {
+        print!("{}", tally::cases_table(reached, &all));
+    }
     print_damage(&tally);
     println!("{count} passed, 0 failed");
     Ok(())

@@ -187,7 +187,7 @@ fn behind(random: &mut Random, key: &[u8]) -> Vec<u8> {
 
 /// The length of a value: such that it ends near the end of a page, or that the span takes all free
 /// pages or one more than there are, or any.
-fn value_length(
+pub fn value_length(
     random: &mut Random,
     layout: &Layout,
     sort: Sort,
@@ -225,7 +225,7 @@ fn of_put(made: &Made<'_>) -> Vec<String> {
     let Call::Put { name, key, .. } = made.call else {
         return Vec::new();
     };
-    let Some(place) = made.before.find(name) else {
+    let Some((old, new)) = made.tables(name) else {
         return Vec::new();
     };
     let free = made.before.free_pages();
@@ -235,7 +235,6 @@ fn of_put(made: &Made<'_>) -> Vec<String> {
         ("no room with some pages free", is_refused && free > 0),
     ]);
     if made.number == 0 {
-        let (old, new) = (&made.before.tables[place].1, &made.after.tables[place].1);
         let sort = Sort::of(name);
         cases.extend(reached::of_entries(new, sort, key));
         cases.extend(of_spans(old, new, sort, key));

@@ -26,6 +26,15 @@ pub struct Made<'a> {
     pub after: &'a Layout,
 }
 
+impl Made<'_> {
+    /// The table of this name before and after the call, if it was there before.
+    pub fn tables(&self, name: &[u8]) -> Option<(&Table, &Table)> {
+        let old = self.before.find(name)?;
+        let new = self.after.find(name)?;
+        Some((&self.before.tables[old].1, &self.after.tables[new].1))
+    }
+}
+
 /// The cases that hold, of these.
 pub fn held(cases: &[(&str, bool)]) -> Vec<String> {
     let held = cases.iter().filter(|(_, holds)| *holds);

@@ -143,11 +143,10 @@ pub fn of_remove(made: &Made<'_>) -> Vec<String> {
     let Call::Remove { name, key } = made.call else {
         return Vec::new();
     };
-    let place = made.before.find(name).filter(|_| made.number == 0);
-    let Some(table) = place else {
+    let tables = made.tables(name).filter(|_| made.number == 0);
+    let Some((old, new)) = tables else {
         return Vec::new();
     };
-    let (old, new) = (&made.before.tables[table].1, &made.after.tables[table].1);
     let sort = Sort::of(name);
     let place = old.target(sort, key);
     let mut cases = of_key(old, place, key);

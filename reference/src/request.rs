@@ -101,6 +101,17 @@ impl Call {
         }
     }
 
+    /// The key; check and create have none.
+    pub fn key(&self) -> Option<&[u8]> {
+        match self {
+            Call::Check | Call::Create { .. } => None,
+            Call::Get { key, .. }
+            | Call::Put { key, .. }
+            | Call::Remove { key, .. }
+            | Call::Next { key, .. } => Some(key),
+        }
+    }
+
     /// Whether the call may change the image.
     pub fn changes(&self) -> bool {
         matches!(

@@ -2,10 +2,12 @@
 
 mod common;
 
-use common::{card, create, layout, put, remove};
+use common::{assert_reached, card, create, in_two, layout, put, remove};
 use reference::audit::{audit, reach};
 use reference::calls::Answer;
 use reference::check::check;
+use reference::compare::offset_lists;
+use reference::compare::programs::REFERENCE;
 use reference::damage;
 use reference::emptying;
 use reference::encode;
@@ -16,6 +18,7 @@ use reference::fuzz::{accepted, damaged, fuzz, run_call, verdicts_agree};
 use reference::generate::{self, Knobs, Sample};
 use reference::layout::{Span, Table, Tower};
 use reference::ledger::{tables_of, Ledger};
+use reference::offsets;
 use reference::page::{kind_of, write_u32, Kind, MARKS};
 use reference::random::Random;
 use reference::request::{Call, CallKind, Request};
@@ -54,6 +57,13 @@ fn lists_of_calls_and_damaged_images() {
             assert!(seen == expected || number == 1, "{kind} {number}");
         }
     }
+}
+
+/// The lists on offset tables reach all their cases, and the ledger says what is answered.
+#[test]
+fn lists_on_offset_tables() {
+    let tally = in_two(&REFERENCE, 1, 3000, offset_lists);
+    assert_reached(&tally, &offsets::all());
 }
 
 /// These rules can each be broken while every other rule holds.

@@ -13,6 +13,7 @@ use crate::fuzz::{Failure, CALLS};
 use crate::generate::Knobs;
 use crate::layout::Layout;
 use crate::ledger::{tables_of, Ledger, Said};
+use crate::offsets;
 use crate::page::pages_of;
 use crate::pairs::neighbours::{self, Neighbours};
 use crate::pairs::{self, Card, Trial};
@@ -40,7 +41,7 @@ pub struct Aimed {
 }
 
 /// The comparisons that are aimed at certain cases.
-pub const AIMED: [Aimed; 5] = [
+pub const AIMED: [Aimed; 6] = [
     Aimed {
         compare: put_lists,
         cases: putting::all,
@@ -60,6 +61,11 @@ pub const AIMED: [Aimed; 5] = [
         compare: empty_lists,
         cases: emptying::all,
         one_in: 4,
+    },
+    Aimed {
+        compare: offset_lists,
+        cases: offsets::all,
+        one_in: 1,
     },
     Aimed {
         compare: key_pairs,
@@ -175,6 +181,12 @@ pub fn empty_lists(program: &Program, seed: u64, count: u64) -> Result<Tally, Fa
         emptying::script,
         emptying::nothing_left,
     )
+}
+
+/// Runs `count` lists on tables whose names have a "#" by both programs, for the seeds from `seed` on,
+/// and counts what they reach.
+pub fn offset_lists(program: &Program, seed: u64, count: u64) -> Result<Tally, Failure> {
+    aimed_lists(program, seeds(seed, count), offsets::script)
 }
 
 /// Makes the calls of `count` pairs of keys by both programs, from pair `first` on, and counts what
