@@ -15,15 +15,16 @@ use reference::entries::{self, Entry, Place};
 use reference::events;
 use reference::explain::explain;
 use reference::fuzz::{accepted, damaged, fuzz, run_call, verdicts_agree};
-use reference::generate::{self, Knobs, Sample};
+use reference::generate::{self, Knobs, Sample, NEAR_END, OFFSET_NAMES};
 use reference::layout::{Span, Table, Tower};
 use reference::ledger::{tables_of, Ledger};
-use reference::offsets;
+use reference::offsets::{self, before_page_end};
 use reference::page::{kind_of, write_u32, Kind, MARKS};
 use reference::random::Random;
 use reference::request::{Call, CallKind, Request};
 use reference::rule::Rule;
 use reference::script::{script, script_on, Script};
+use reference::sort::{number, Sort};
 use std::collections::{BTreeMap, BTreeSet};
 
 #[test]
@@ -443,6 +444,76 @@ fn note(seen: &mut BTreeMap<String, u64>, sample: &Sample) {
         note_towers(&mut add, table);
         note_entries(&mut add, table);
     }
+    for (name, table) in &layout.tables {
+        note_name(&mut add, name);
+        match Sort::of(name) {
+            Sort::Bytes => add("ordinary table", true),
+            Sort::Numbers => note_offsets(&mut add, table),
+        }
+    }
+}
+
+fn note_name(add: &mut impl FnMut(&str, bool), name: &[u8]) {
+    for of_offsets in OFFSET_NAMES {
+        let what = format!("table {}", of_offsets.escape_ascii());
+        add(&what, name == of_offsets);
+    }
+    add("another offset table", is_other(name) && name[0] == b'#');
+    add(
+        "# in another ordinary name",
+        is_other(name) && is_inside(name),
+    );
+}
+
+/// Whether the name is none of those that come often.
+fn is_other(name: &[u8]) -> bool {
+    !OFFSET_NAMES.contains(&name)
+}
+
+/// Whether "#" is in the name, but does not begin it.
+fn is_inside(name: &[u8]) -> bool {
+    name[0] != b'#' && name.contains(&b'#')
+}
+
+fn note_offsets(add: &mut impl FnMut(&str, bool), table: &Table) {
+    let keys: Vec<&[u8]> = table.entries().map(|entry| &entry.key[..]).collect();
+    let numbers: Vec<i32> = keys.iter().filter_map(|key| number(key)).collect();
+    assert_eq!(numbers.len(), keys.len());
+    let negative = numbers.iter().filter(|number| **number < 0).count();
+    let has_both = (1..keys.len()).contains(&negative);
+    for marked in [i32::MIN, -1, 0, 1, i32::MAX] {
+        add(&format!("key {marked}"), numbers.contains(&marked));
+    }
+    add("offset table", true);
+    add("offset table of both signs", has_both);
+    add("negative keys only", negative == keys.len() && negative > 1);
+    add("positive keys only", negative == 0 && keys.len() > 1);
+    add("both orders agree", keys.len() > 1 && keys.is_sorted());
+    add("the orders differ", !keys.is_sorted());
+    add("over 100 offsets", keys.len() > 100);
+    let is_run = numbers.len() > 9 && numbers.windows(2).all(|pair| pair[0] + 1 == pair[1]);
+    add("a run over the sign change", is_run && has_both);
+    note_offset_spans(add, table);
+    for key in keys {
+        if let Some(bytes) = before_page_end(Sort::Numbers, table, key) {
+            add(&format!("{bytes} bytes before the page's end"), true);
+        }
+    }
+}
+
+fn note_offset_spans(add: &mut impl FnMut(&str, bool), table: &Table) {
+    let is_border = |span: &Span| number(&span.entries[0].key) >= Some(0);
+    let first = table.spans[1..].iter().position(is_border);
+    let last_before = first.and_then(|place| table.spans[place].entries.last());
+    let changes = last_before.is_some_and(|entry| number(&entry.key) < Some(0));
+    add("the sign changes with the span", changes);
+    let is_empty = table.spans[0].entries.is_empty() && table.spans.len() > 1;
+    add("empty first span of offsets", is_empty);
+    add("many towers over offsets", table.levels() > 10);
+    for size in [2, 3, 128] {
+        let what = format!("offset table of span size {size}");
+        add(&what, table.span_size == size);
+    }
 }
 
 fn note_towers(add: &mut impl FnMut(&str, bool), table: &Table) {
@@ -466,7 +537,7 @@ fn note_entries(add: &mut impl FnMut(&str, bool), table: &Table) {
         let mut place = Place::START;
         for entry in &span.entries {
             place = place.after_entry(entry.key.len(), entry.value.len());
-            if place.left() < 6 {
+            if place.left() < NEAR_END {
                 add(&format!("{} bytes left", place.left()), true);
             }
             add("key of 65535", entry.key.len() == 65_535);
@@ -487,13 +558,20 @@ fn note_entries(add: &mut impl FnMut(&str, bool), table: &Table) {
 fn the_generator_keeps_its_promises() {
     let mut seen = BTreeMap::new();
     let mut random = Random::new(2);
-    for _ in 0..1500 {
+    for _ in 0..2500 {
         let knobs = Knobs::any(&mut random);
         let sample = generate::sample(&mut random, &knobs);
         accepted(&sample).expect("well-formed");
         note(&mut seen, &sample);
     }
-    assert!(seen.contains_key("0 bytes left") && seen.contains_key("5 bytes left"));
+    for bytes in 0..=4 {
+        assert!(seen.contains_key(&format!("{bytes} bytes before the page's end")));
+    }
+    for bytes in 0..NEAR_END {
+        assert!(seen.contains_key(&format!("{bytes} bytes left")));
+    }
+    assert!(seen["ordinary table"] > 2 * seen["offset table"]);
+    assert!(seen["offset table"] > 500);
     for (what, count) in seen {
         assert!(count >= 3, "{what}: {count}");
     }

@@ -104,6 +104,50 @@ fn names_and_keys_come_before_values_and_tables() {
     assert_eq!(answer, refused(4));
 }
 
+/// Asserts what each call that has a key is refused with, in this table with this key and value.
+fn assert_keyed(image: &[u8], name: &[u8], key: &[u8], value: &[u8], numbers: [u32; 4]) {
+    let [get, next, put, remove] = numbers;
+    let answer = on_copy(image, |image, scratch| {
+        calls::get(image, scratch, name, key, &mut [])
+    });
+    assert_eq!(answer, refused(get), "get {name:?} {}", key.len());
+    let answer = on_copy(image, |image, scratch| {
+        calls::next(image, scratch, name, key, &mut [])
+    });
+    assert_eq!(answer, refused(next), "next {name:?} {}", key.len());
+    let answer = on_copy(image, |image, scratch| {
+        calls::put(image, scratch, name, key, value)
+    });
+    assert_eq!(answer, refused(put), "put {name:?} {}", key.len());
+    let answer = on_copy(image, |image, scratch| {
+        calls::remove(image, scratch, name, key)
+    });
+    assert_eq!(answer, refused(remove), "remove {name:?} {}", key.len());
+}
+
+/// "4 also for a key of another length under such a name, table there or not (next may still be
+/// empty)": before 5 and 6.
+#[test]
+fn keys_of_other_lengths_under_an_offset_name() {
+    let mut good = card(12, 16);
+    assert_eq!(create(&mut good, b"#t"), 0);
+    for name in [&b"#t"[..], b"#", b"##", b"#none"] {
+        for length in [1, 2, 3, 5, 6, 8, 255, LONG - 1, LONG] {
+            for value in [&[0; LONG][..], b""] {
+                assert_keyed(&good, name, &vec![0; length], value, [4; 4]);
+            }
+        }
+        let none = if name == b"#t" { 8 } else { 6 };
+        assert_keyed(&good, name, b"", &[0; LONG], [4, none, 4, 4]);
+        assert_keyed(&good, name, b"four", &[0; LONG], [none, none, 5, none]);
+    }
+    for name in [&b"none"[..], b"a#", b"a#t", b"!#"] {
+        for length in [1, 3, 4, 5, LONG - 1] {
+            assert_keyed(&good, name, &vec![b'#'; length], b"", [6; 4]);
+        }
+    }
+}
+
 #[test]
 fn values_tables_and_keys() {
     let good = image();

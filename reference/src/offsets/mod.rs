@@ -4,7 +4,7 @@
 
 mod cases;
 
-pub use cases::all;
+pub use cases::{all, before_page_end};
 
 use crate::emptying;
 use crate::entries::MAX_LENGTH;
@@ -131,7 +131,7 @@ fn key_there(random: &mut Random, sort: Sort, table: &Table) -> Option<Vec<u8>> 
     let keys: Vec<&[u8]> = table.entries().map(|entry| entry.key.as_slice()).collect();
     let at_end = keys.iter().copied();
     let at_end: Vec<&[u8]> = at_end
-        .filter(|key| cases::before_page_end(sort, table, key).is_some())
+        .filter(|key| before_page_end(sort, table, key).is_some())
         .collect();
     let keys = match at_end.is_empty() || random.percent(50) {
         true => keys,
