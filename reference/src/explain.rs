@@ -4,6 +4,7 @@ use crate::check::check;
 use crate::layout::{Block, Layout, Table, Tower};
 use crate::page;
 use crate::rule::Broken;
+use crate::sort::{number, Sort};
 
 /// The layout, or every broken rule with its page.
 pub fn explain(image: &[u8]) -> String {
@@ -33,16 +34,16 @@ fn explain_layout(layout: &Layout) -> String {
         layout.pages, layout.mounted, layout.span_size
     );
     text.push_str("metaindex\n");
-    text.push_str(&explain_table(&layout.meta));
+    text.push_str(&explain_table(Sort::Bytes, &layout.meta));
     for (name, table) in &layout.tables {
         text.push_str(&format!("table {}\n", shown(name)));
-        text.push_str(&explain_table(table));
+        text.push_str(&explain_table(Sort::of(name), table));
     }
     text.push_str(&explain_free(&layout.free));
     text
 }
 
-fn explain_table(table: &Table) -> String {
+fn explain_table(sort: Sort, table: &Table) -> String {
     let mut text = format!(
         "  skip list {}, span size {}, keys {}, head {}\n",
         table.root,
@@ -60,7 +61,7 @@ fn explain_table(table: &Table) -> String {
         }
         text.push('\n');
         for entry in &span.entries {
-            let (key, value) = (shown(&entry.key), shown(&entry.value));
+            let (key, value) = (shown_key(sort, &entry.key), shown(&entry.value));
             text.push_str(&format!("    {key}: {value}\n"));
         }
     }
@@ -74,6 +75,12 @@ fn explain_tower(tower: &Tower) -> String {
 fn explain_free(blocks: &[Block]) -> String {
     let line = |block: &Block| format!("free-list block {} lists {:?}\n", block.page, block.listed);
     blocks.iter().map(line).collect()
+}
+
+/// The number in an offset table, or the key as other bytes are shown.
+fn shown_key(sort: Sort, key: &[u8]) -> String {
+    let number = number(key).filter(|_| sort == Sort::Numbers);
+    number.map_or_else(|| shown(key), |number| number.to_string())
 }
 
 /// The first bytes, printable ones as they are, and the length where they are many.

@@ -1,8 +1,11 @@
 //! Sample cards: small images in files, each with the line that the program has to write for it.
 
 use crate::calls;
+use crate::check::check;
 use crate::encode;
+use crate::entries::Entry;
 use crate::layout::{Block, Layout, Span, Table, Tower};
+use crate::numbers;
 use crate::page::{self, skip_list, span, METAINDEX, PAGE};
 use crate::program;
 use std::fs;
@@ -17,8 +20,11 @@ pub struct Sample {
     pub line: &'static str,
 }
 
-/// The table of the samples.
+/// The table of lens records.
 const LENS: &[u8] = b"lens";
+
+/// The table of frame offsets.
+const SYNC: &[u8] = b"#sync";
 
 /// The span size of created tables.
 const SPAN_SIZE: u16 = 4;
@@ -36,6 +42,8 @@ pub fn samples() -> Vec<Sample> {
             "pages 32 tables 1 keys 30 free 11",
         ),
         sample("full", full(), "pages 16 tables 1 keys 22 free 0"),
+        sample("offsets", offsets(), "pages 16 tables 1 keys 12 free 4"),
+        sample("offsets-by-bytes", offsets_by_bytes(), "refused 3"),
         sample("empty-file", Vec::new(), "refused 1"),
         sample("ring-of-spans", ring_of_spans(&cameras), "refused 3"),
         sample("cut-in-a-page", cameras[..20_000].to_vec(), "refused 1"),
@@ -94,9 +102,14 @@ fn blank(pages: u32) -> Vec<u8> {
 
 /// "After create "lens"."
 fn lens(pages: u32) -> Vec<u8> {
+    with_table(pages, LENS)
+}
+
+/// A blank card with a table of this name.
+fn with_table(pages: u32, name: &[u8]) -> Vec<u8> {
     let mut image = blank(pages);
     let mut scratch = vec![0; image.len()];
-    let answer = calls::create(&mut image, &mut scratch, LENS);
+    let answer = calls::create(&mut image, &mut scratch, name);
     assert_eq!(answer.number, 0, "there is room for a table");
     image
 }
@@ -122,6 +135,34 @@ fn put(image: &mut [u8], camera: u32) -> u32 {
     let mut scratch = vec![0; image.len()];
     let key = format!("cam{camera:02}").into_bytes();
     calls::put(image, &mut scratch, LENS, &key, &record(camera)).number
+}
+
+/// A table "#sync" with the frame offsets of twelve cameras: the first is the farthest behind.
+fn offsets() -> Vec<u8> {
+    let mut image = with_table(16, SYNC);
+    let mut scratch = vec![0; image.len()];
+    for camera in 1..=12 {
+        let key = numbers::key(5 * camera - 30);
+        let value = format!("camera {camera:02}").into_bytes();
+        let answer = calls::put(&mut image, &mut scratch, SYNC, &key, &value);
+        assert_eq!(answer.number, 0, "there is room for an offset");
+    }
+    image
+}
+
+/// The same table with its entries, which all have one length, in the order of their keys' bytes.
+fn offsets_by_bytes() -> Vec<u8> {
+    let mut image = offsets();
+    let mut layout = check(&image).expect("well-formed");
+    let table = &mut layout.tables[0].1;
+    let mut entries: Vec<Entry> = table.entries().cloned().collect();
+    entries.sort_by(|one, other| one.key.cmp(&other.key));
+    for span in &mut table.spans {
+        let rest = entries.split_off(span.entries.len());
+        span.entries = std::mem::replace(&mut entries, rest);
+    }
+    encode::layout(&mut image, &layout);
+    image
 }
 
 /// A small calibration record: focal lengths and centre, none, two or four numbers of a model,

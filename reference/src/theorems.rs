@@ -6,11 +6,13 @@
 use crate::check;
 use crate::encode;
 use crate::entries::Entry;
-use crate::generate::{self, Knobs};
+use crate::generate::{self, Knobs, OFFSET_NAMES};
 use crate::layout::{Block, Layout, Span, Table, Tower};
+use crate::numbers;
 use crate::page::PAGE;
 use crate::random::Random;
 use crate::request::{Call, Request};
+use crate::sort::Sort;
 use std::fmt::Write;
 
 /// The module's `use` lines and the definitions that the theorems need.
@@ -28,22 +30,39 @@ const IMAGE: &str = "be16 be32 be64 word32 reached lensAt entryEnd nameRule keyR
 /// How often the image has no page free and the call is a remove of a key that is there.
 const FULL_EVERY: u64 = 4;
 
+/// How often the image has to have an offset table with keys; others may have one too.
+const OFFSETS_EVERY: u64 = 3;
+
 /// A module of theorems on `count` images with a call each.
 pub fn module(seed: u64, count: u64) -> String {
     let mut random = Random::new(seed);
     let mut text = HEAD.to_owned();
     for number in 1..=count {
         let is_full = number % FULL_EVERY == 0;
-        let (image, layout) = sample(&mut random, is_full);
+        let (image, layout) = match number % OFFSETS_EVERY {
+            0 => with_offsets(&mut random, is_full),
+            _ => sample(&mut random, is_full),
+        };
         let call = if is_full {
             remove(&mut random, &layout)
         } else {
             call(&mut random, &layout)
         };
-        let room = *random.pick(&[0, 1, 2, 5000]);
+        let room = *random.pick(&[0, 1, 2, 4, 5000, 5000]);
         claims(&mut text, number, &image, &layout, call, room);
     }
     text
+}
+
+/// An image as `sample` makes it that has an offset table with keys.
+fn with_offsets(random: &mut Random, is_full: bool) -> (Vec<u8>, Layout) {
+    loop {
+        let (image, layout) = sample(random, is_full);
+        let has_keys = |(sort, table): (Sort, &Table)| sort == Sort::Numbers && table.keys() > 0;
+        if layout.sorted_tables().any(has_keys) {
+            return (image, layout);
+        }
+    }
 }
 
 /// A small image, with no page free or any number of them, whose unused bytes and values are the
@@ -77,17 +96,20 @@ fn sample(random: &mut Random, is_full: bool) -> (Vec<u8>, Layout) {
 
 /// A call, mostly one that changes the image.
 fn call(random: &mut Random, layout: &Layout) -> Call {
-    let name = match layout.tables.len() {
-        0 => b"none".to_vec(),
-        tables => layout.tables[random.below(tables)].0.clone(),
-    };
+    let name = name(random, layout);
     let key = key(random, layout, &name);
     match random.below(12) {
         0 => Call::Check,
         1 => Call::Get { name, key },
         2 => Call::Next { name, key },
-        3 | 4 => Call::Create {
-            name: random.pick(&[&b"b"[..], b"camx", b"zz"]).to_vec(),
+        3 => Call::Create {
+            name: random
+                .pick(&[&b"b"[..], b"camx", b"zz", b"#", b"#z", b"z#"])
+                .to_vec(),
+        },
+        4 => Call::Next {
+            name,
+            key: Vec::new(),
         },
         5..=7 => Call::Remove { name, key },
         _ => {
@@ -96,6 +118,20 @@ fn call(random: &mut Random, layout: &Layout) -> Call {
             Call::Put { name, key, value }
         }
     }
+}
+
+/// The name of a table, of an offset table more often; sometimes of one that may not be there.
+fn name(random: &mut Random, layout: &Layout) -> Vec<u8> {
+    let tables = layout.tables.iter();
+    let mut names: Vec<&[u8]> = tables.map(|(name, _)| name.as_slice()).collect();
+    if names.is_empty() || random.percent(8) {
+        return random.pick(&OFFSET_NAMES).to_vec();
+    }
+    let is_offset = |name: &&[u8]| Sort::of(name) == Sort::Numbers;
+    if names.iter().any(is_offset) && random.percent(60) {
+        names.retain(is_offset);
+    }
+    random.pick(&names).to_vec()
 }
 
 /// A remove of one of the keys, or a check where there are none.
@@ -114,18 +150,24 @@ fn remove(random: &mut Random, layout: &Layout) -> Call {
     }
 }
 
-/// A key of the table, or one beside it.
+/// A key of the table, or one beside it; in an offset table sometimes one of another length.
 fn key(random: &mut Random, layout: &Layout, name: &[u8]) -> Vec<u8> {
+    let sort = Sort::of(name);
     let table = layout.find(name).map(|place| &layout.tables[place].1);
     let keys: Vec<&Entry> = table.map_or(Vec::new(), |table| table.entries().collect());
     if keys.is_empty() || random.percent(20) {
-        return random
-            .pick(&[&b"a"[..], b"cam", b"cam1", b"\x7f", b"\x80"])
-            .to_vec();
+        let few = [&b"a"[..], b"cam", b"cam1", b"\x7f", b"\x80"];
+        return match sort {
+            Sort::Numbers if random.percent(80) => numbers::any_key(random),
+            _ => random.pick(&few).to_vec(),
+        };
     }
     let mut key = keys[random.below(keys.len())].key.clone();
     if random.percent(40) {
-        key.push(random.below(256) as u8);
+        match sort {
+            Sort::Numbers if random.percent(60) => key = numbers::beside(random, &key),
+            _ => key.push(random.below(256) as u8),
+        }
     }
     key
 }

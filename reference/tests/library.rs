@@ -12,12 +12,13 @@ use common::{assert_covered, assert_reached, in_two};
 use reference::compare::cases::Source;
 use reference::compare::tally::{calls_table, images_table, Tally};
 use reference::compare::{
-    create_lists, empty_lists, images, key_pairs, lengths, lists, long_lists, present_lengths,
-    put_lists, read_lists, remove_lists, Compare,
+    create_lists, empty_lists, images, key_pairs, lengths, lists, long_lists, offset_lists,
+    present_lengths, put_lists, read_lists, remove_lists, Compare,
 };
 use reference::creating;
 use reference::emptying;
 use reference::library::LIBRARY;
+use reference::offsets;
 use reference::pairs::{neighbours, PAIRS};
 use reference::putting;
 use reference::reading::LONGEST;
@@ -41,6 +42,8 @@ const REMOVE_LISTS: u64 = 20_000;
 const FULL_CARDS: u64 = 4_000;
 /// How many lists are run that create tables and then use them.
 const CREATE_LISTS: u64 = 50_000;
+/// How many lists on offset tables are run.
+const OFFSET_LISTS: u64 = 20_000;
 /// How many lengths keys have that are put and read, up to the greatest.
 const PRESENT: u64 = 2_114;
 
@@ -130,6 +133,21 @@ fn tables_created_and_used_have_the_same_outcome() {
     }
     assert_answered(&tally, CallKind::Create, &[0, 2, 4, 7, 10], 1_000);
     assert_reached(&tally, &creating::all());
+}
+
+#[test]
+fn calls_on_offset_tables_have_the_same_outcome() {
+    let tally = compared(1, OFFSET_LISTS, offset_lists);
+    println!("{}", calls_table(&tally.calls));
+    for kind in [
+        CallKind::Get,
+        CallKind::Put,
+        CallKind::Remove,
+        CallKind::Next,
+    ] {
+        assert_answered(&tally, kind, &[0, 2, 4, 6], 200);
+    }
+    assert_reached(&tally, &offsets::all());
 }
 
 #[test]

@@ -1,7 +1,9 @@
 //! The sample cards: their lines, and that the files are those that the command makes.
 
 use reference::calls;
+use reference::check::check;
 use reference::program::line;
+use reference::rule::Rule;
 use reference::samples::samples;
 use std::fs;
 use std::path::Path;
@@ -23,8 +25,7 @@ fn only_one_sample_is_longer_than_the_program_reads() {
 
 #[test]
 fn a_full_card_has_no_room_but_every_camera_can_be_removed() {
-    let full = samples().into_iter().find(|sample| sample.name == "full");
-    let mut card = full.expect("the full card").card;
+    let mut card = card("full");
     let mut scratch = vec![0; card.len()];
     let put = calls::put(&mut card, &mut scratch, b"lens", b"cam99", &[0; 1024]);
     assert_eq!(put.number, 10);
@@ -34,6 +35,40 @@ fn a_full_card_has_no_room_but_every_camera_can_be_removed() {
         assert_eq!(remove.number, 0, "{key}");
     }
     assert_eq!(line(&card), "pages 16 tables 1 keys 0 free 9");
+}
+
+/// The sample card of this name.
+fn card(name: &str) -> Vec<u8> {
+    let mut samples = samples().into_iter();
+    let sample = samples.find(|sample| sample.name == name);
+    sample.expect("a sample of this name").card
+}
+
+#[test]
+fn offsets_are_gone_through_as_numbers() {
+    let card = card("offsets");
+    let mut scratch = vec![0; card.len()];
+    let mut numbers = Vec::new();
+    let (mut length, mut key) = (0, [0; 4]);
+    loop {
+        let asked = key;
+        let asked = &asked[..length];
+        let answer = calls::next(&card, &mut scratch, b"#sync", asked, &mut key);
+        if answer.number == 8 {
+            break;
+        }
+        length = answer.length as usize;
+        numbers.push(i32::from_be_bytes(key));
+    }
+    let expected: Vec<i32> = (-25..=30).step_by(5).collect();
+    assert_eq!(numbers, expected);
+}
+
+#[test]
+fn offsets_in_byte_order_break_the_order_alone() {
+    let broken = check(&card("offsets-by-bytes")).expect_err("refused");
+    let rules: Vec<Rule> = broken.iter().map(|one| one.rule).collect();
+    assert_eq!(rules, [Rule::OffsetsRising]);
 }
 
 #[test]
