@@ -13,12 +13,13 @@ use reference::compare::cases::Source;
 use reference::compare::tally::{calls_table, images_table, Tally};
 use reference::compare::{
     create_lists, empty_lists, images, key_pairs, lengths, lists, long_lists, offset_lists,
-    present_lengths, put_lists, read_lists, remove_lists, Compare,
+    offset_pairs, present_lengths, put_lists, read_lists, remove_lists, Compare,
 };
 use reference::creating;
 use reference::emptying;
 use reference::library::LIBRARY;
 use reference::offsets;
+use reference::pairs::offsets as number_pairs;
 use reference::pairs::{neighbours, PAIRS};
 use reference::putting;
 use reference::reading::LONGEST;
@@ -177,4 +178,12 @@ fn pairs_of_keys_have_the_same_outcome() {
     assert_answered(&tally, CallKind::Next, &[0], PAIRS);
     assert_reached(&tally, &neighbours::all());
     assert_covered(&tally);
+}
+
+#[test]
+fn pairs_of_numbers_have_the_same_outcome() {
+    let tally = compared(0, number_pairs::PAIRS, offset_pairs);
+    println!("{}", calls_table(&tally.calls));
+    assert_answered(&tally, CallKind::Check, &[0, 3], number_pairs::PAIRS / 2);
+    assert_reached(&tally, &number_pairs::all());
 }

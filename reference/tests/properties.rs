@@ -6,8 +6,8 @@ use common::{assert_reached, card, create, in_two, layout, put, remove};
 use reference::audit::{audit, reach};
 use reference::calls::Answer;
 use reference::check::check;
-use reference::compare::offset_lists;
 use reference::compare::programs::REFERENCE;
+use reference::compare::{offset_lists, offset_pairs};
 use reference::damage;
 use reference::emptying;
 use reference::encode;
@@ -20,6 +20,7 @@ use reference::layout::{Span, Table, Tower};
 use reference::ledger::{tables_of, Ledger};
 use reference::offsets::{self, before_page_end};
 use reference::page::{kind_of, write_u32, Kind, MARKS};
+use reference::pairs::offsets as number_pairs;
 use reference::random::Random;
 use reference::request::{Call, CallKind, Request};
 use reference::rule::Rule;
@@ -65,6 +66,15 @@ fn lists_of_calls_and_damaged_images() {
 fn lists_on_offset_tables() {
     let tally = in_two(&REFERENCE, 1, 3000, offset_lists);
     assert_reached(&tally, &offsets::all());
+}
+
+/// The pairs of numbers are all of those wanted, and the reference answers what was meant.
+#[test]
+fn pairs_of_numbers() {
+    let numbers = number_pairs::numbers();
+    assert_eq!(numbers.len(), number_pairs::NUMBERS);
+    let tally = in_two(&REFERENCE, 0, number_pairs::PAIRS, offset_pairs);
+    assert_reached(&tally, &number_pairs::all());
 }
 
 /// These rules can each be broken while every other rule holds.

@@ -9,6 +9,7 @@ use crate::calls::Answer;
 use crate::check::check;
 use crate::creating;
 use crate::emptying;
+use crate::entries::Entry;
 use crate::fuzz::{Failure, CALLS};
 use crate::generate::Knobs;
 use crate::layout::Layout;
@@ -16,7 +17,8 @@ use crate::ledger::{tables_of, Ledger, Said};
 use crate::offsets;
 use crate::page::pages_of;
 use crate::pairs::neighbours::{self, Neighbours};
-use crate::pairs::{self, Card, Trial};
+use crate::pairs::offsets::{self as number_pairs, ROW};
+use crate::pairs::{self, Card, Pair, Row, Trial, SERIALS};
 use crate::putting;
 use crate::random::Random;
 use crate::reached::{count, Cases};
@@ -41,7 +43,7 @@ pub struct Aimed {
 }
 
 /// The comparisons that are aimed at certain cases.
-pub const AIMED: [Aimed; 6] = [
+pub const AIMED: [Aimed; 7] = [
     Aimed {
         compare: put_lists,
         cases: putting::all,
@@ -70,6 +72,11 @@ pub const AIMED: [Aimed; 6] = [
     Aimed {
         compare: key_pairs,
         cases: neighbours::all,
+        one_in: 1,
+    },
+    Aimed {
+        compare: offset_pairs,
+        cases: number_pairs::all,
         one_in: 1,
     },
 ];
@@ -192,39 +199,70 @@ pub fn offset_lists(program: &Program, seed: u64, count: u64) -> Result<Tally, F
 /// Makes the calls of `count` pairs of keys by both programs, from pair `first` on, and counts what
 /// they cover.
 pub fn key_pairs(program: &Program, first: u64, count: u64) -> Result<Tally, Failure> {
+    let numbers = seeds(first, count);
+    all_pairs(program, numbers, &SERIALS, pairs::pair, |entries, tally| {
+        let neighbours = Neighbours::of(entries);
+        self::count(&mut tally.cases, neighbours.cases());
+        self::count(&mut tally.pairs, neighbours.covered());
+    })
+}
+
+/// Makes the calls of `count` pairs of numbers in an offset table by both programs, from pair `first`
+/// on, and counts what they reach.
+pub fn offset_pairs(program: &Program, first: u64, count: u64) -> Result<Tally, Failure> {
+    let numbers = seeds(first, count);
+    all_pairs(
+        program,
+        numbers,
+        &ROW,
+        number_pairs::pair,
+        |entries, tally| {
+            self::count(&mut tally.cases, number_pairs::cases(entries));
+        },
+    )
+}
+
+/// Makes the calls of these pairs in a table by both programs; of each check's entries it is counted
+/// what they reach.
+fn all_pairs(
+    program: &Program,
+    numbers: impl Iterator<Item = u64>,
+    row: &Row,
+    pair: fn(u64) -> Pair,
+    reached: fn(&[Entry], &mut Tally),
+) -> Result<Tally, Failure> {
     let mut tally = Tally::default();
-    let mut card = pairs::card();
-    for seed in seeds(first, count) {
-        let pair = pairs::pair(seed);
-        for trial in pair.trials() {
-            let outcome = self::trial(program, &mut card, trial, &mut tally);
+    let mut card = pairs::card(row);
+    for seed in numbers {
+        let pair = pair(seed);
+        for trial in pair.trials(row) {
+            let is_check = trial.request.call.kind() == CallKind::Check;
+            let outcome = self::trial(program, &mut card, trial, &mut tally.calls);
             outcome.map_err(|what| Failure {
                 seed,
                 what: format!("{what}, with {pair:?}"),
             })?;
+            if is_check {
+                reached(card.entries(), &mut tally);
+            }
         }
     }
     Ok(tally)
 }
 
-/// Makes one call with a pair of keys by both programs; counts it, and what a check covers.
+/// Makes one call with a pair of keys by both programs, and counts it.
 fn trial(
     program: &Program,
     card: &mut Card,
     trial: Trial,
-    tally: &mut Tally,
+    called: &mut Called,
 ) -> Result<(), String> {
     let kind = trial.request.call.kind();
     let at = |what| format!("a {kind}: {what}");
     let image = card.with(trial.entries);
     let outcome = compare_call(program, image, &trial.request).map_err(at)?;
     as_said(&outcome, &trial.said).map_err(at)?;
-    count(&mut tally.calls, [(kind, outcome.answer.number)]);
-    if kind == CallKind::Check {
-        let neighbours = Neighbours::of(card.entries());
-        count(&mut tally.cases, neighbours.cases());
-        count(&mut tally.pairs, neighbours.covered());
-    }
+    count(called, [(kind, outcome.answer.number)]);
     Ok(())
 }
 

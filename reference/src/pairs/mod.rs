@@ -7,6 +7,7 @@
 //! the pair was made: the keys are not compared to find it out.
 
 pub mod neighbours;
+pub mod offsets;
 
 use crate::calls;
 use crate::check::check;
@@ -40,12 +41,19 @@ pub const PAIRS: u64 = (LONGEST * OFFSETS) as u64;
 /// above `LONGEST`, and the number of offsets is another.
 const STEP: usize = 227;
 
-/// The name of the table.
-const NAME: &[u8] = b"serials";
+/// A table for pairs of keys, with a key below all of them and one above them.
+pub struct Row {
+    pub name: &'static [u8],
+    pub least: &'static [u8],
+    pub greatest: &'static [u8],
+}
 
-/// A key below those of all pairs, and one above them, by the first byte.
-const LEAST: &[u8] = &[0x01];
-const GREATEST: &[u8] = &[0xff];
+/// The table of the pairs here: its least and greatest keys are that by the first byte.
+pub const SERIALS: Row = Row {
+    name: b"serials",
+    least: &[0x01],
+    greatest: &[0xff],
+};
 
 /// Where the entries of the span end: it has two continuation pages, whatever the pair.
 const END: Place = Place {
@@ -89,7 +97,6 @@ impl Difference {
 /// Two keys, and where the first of them lies on the pages of a span.
 #[derive(Clone, Debug)]
 pub struct Pair {
-    pub difference: Difference,
     pub place: Place,
     pub lower: Vec<u8>,
     /// As `lower`, if the keys differ in nothing.
@@ -120,7 +127,6 @@ pub fn pair(number: u64) -> Pair {
     let (lower, higher) = keys(length, difference, BYTES[(turn + length) % BYTES.len()]);
     let offset = FIRST + STEP * number % OFFSETS;
     Pair {
-        difference,
         place: place(offset, turn.is_multiple_of(2)),
         lower,
         higher,
@@ -130,7 +136,8 @@ pub fn pair(number: u64) -> Pair {
 /// The place at this offset of the span's own page, if that is wanted and there is room for an
 /// entry before, or of its first continuation page.
 fn place(offset: usize, on_own: bool) -> Place {
-    let earliest = Place::START.after_entry(LEAST.len(), 0).after(LENGTHS);
+    let least = SERIALS.least.len();
+    let earliest = Place::START.after_entry(least, 0).after(LENGTHS);
     let page = usize::from(!on_own || offset < earliest.offset);
     Place { page, offset }
 }
@@ -163,20 +170,21 @@ fn keys(length: usize, difference: Difference, bytes: (u8, u8)) -> (Vec<u8>, Vec
 }
 
 impl Pair {
-    /// The calls to make: checks with the keys as neighbours, in order and the other way round; gets
+    /// The calls to make on the table: checks with the keys as neighbours, in order and the other way round; gets
     /// and nexts with one of them that come to the other, where it is below and where it is above.
-    pub fn trials(&self) -> Vec<Trial> {
+    pub fn trials(&self, row: &Row) -> Vec<Trial> {
         let (lower, higher) = (self.lower.as_slice(), self.higher.as_slice());
-        let trial = |stored: &[&[u8]], call, said| trial(self.place, stored, call, said);
+        let trial = |stored: &[&[u8]], call, said| trial(row, self.place, stored, call, said);
         let (get, next) = (
-            |key| reading::get(NAME, key),
-            |key| reading::next(NAME, key),
+            |key| reading::get(row.name, key),
+            |key| reading::next(row.name, key),
         );
-        if self.difference == Difference::Nothing {
+        let greatest = answered(row.greatest);
+        if lower == higher {
             return vec![
                 trial(&[lower, higher], Call::Check, refused(3)),
                 trial(&[lower], get(higher), answered(&value(0))),
-                trial(&[lower], next(higher), answered(GREATEST)),
+                trial(&[lower], next(higher), greatest),
             ];
         }
         vec![
@@ -184,16 +192,16 @@ impl Pair {
             trial(&[higher, lower], Call::Check, refused(3)),
             trial(&[lower, higher], get(higher), answered(&value(1))),
             trial(&[higher], get(lower), refused(8)),
-            trial(&[lower], next(higher), answered(GREATEST)),
+            trial(&[lower], next(higher), greatest),
             trial(&[higher], next(lower), answered(higher)),
         ]
     }
 }
 
 /// A call on a span in which these keys are stored, the first at this place.
-fn trial(place: Place, stored: &[&[u8]], call: Call, said: Said) -> Trial {
+fn trial(row: &Row, place: Place, stored: &[&[u8]], call: Call, said: Said) -> Trial {
     Trial {
-        entries: span_entries(place, stored),
+        entries: span_entries(row, place, stored),
         request: Request {
             call,
             scratch_length: PAGE * PAGES,
@@ -236,19 +244,19 @@ fn value(number: usize) -> Vec<u8> {
 
 /// The entries of a span with these keys, the first of which begins at this place. The value of a
 /// smaller key fills the pages up to it, and that of a greater key up to the end.
-fn span_entries(place: Place, keys: &[&[u8]]) -> Vec<Entry> {
+fn span_entries(row: &Row, place: Place, keys: &[&[u8]]) -> Vec<Entry> {
     let begin = Place {
         offset: place.offset - LENGTHS,
         ..place
     };
-    let mut entries = vec![filling(Place::START, LEAST, begin)];
+    let mut entries = vec![filling(Place::START, row.least, begin)];
     for (number, key) in keys.iter().enumerate() {
         entries.push(Entry {
             key: key.to_vec(),
             value: value(number),
         });
     }
-    entries.push(filling(entries::end(&entries), GREATEST, END));
+    entries.push(filling(entries::end(&entries), row.greatest, END));
     entries
 }
 
@@ -265,8 +273,8 @@ fn filling(from: Place, key: &[u8], to: Place) -> Entry {
 /// An image with one table, of whose only span the entries are written anew for each trial.
 pub struct Card(Sample);
 
-/// The image, with no page free.
-pub fn card() -> Card {
+/// The image with this table, and with no page free.
+pub fn card(row: &Row) -> Card {
     let knobs = Knobs {
         pages: PAGES..=PAGES,
         tables: 0..=0,
@@ -276,9 +284,10 @@ pub fn card() -> Card {
     };
     let mut image = generate::sample(&mut Random::new(1), &knobs).image;
     let mut scratch = vec![0; image.len()];
-    let entry = filling(Place::START, LEAST, END);
-    let created = calls::create(&mut image, &mut scratch, NAME);
-    let put = calls::put(&mut image, &mut scratch, NAME, &entry.key, &entry.value);
+    let name = row.name;
+    let entry = filling(Place::START, row.least, END);
+    let created = calls::create(&mut image, &mut scratch, name);
+    let put = calls::put(&mut image, &mut scratch, name, &entry.key, &entry.value);
     assert_eq!((created.number, put.number), (0, 0), "there is room");
     let layout = check(&image).expect("well-formed");
     Card(Sample { image, layout })
