@@ -26,6 +26,7 @@ use reference::request::{Call, CallKind, Request};
 use reference::rule::Rule;
 use reference::script::{script, script_on, Script};
 use reference::sort::{number, Sort};
+use reference::theorems;
 use std::collections::{BTreeMap, BTreeSet};
 
 #[test]
@@ -238,6 +239,27 @@ fn the_largest_image_full_of_the_highest_towers() {
         assert_eq!(remove(&mut largest.image, &name, &entry.key), 0);
     }
     assert_eq!(put(&mut largest.image, &name, &last[0].key, b"again"), 0);
+}
+
+/// Theorems have calls on offset tables often, done ones and refused ones.
+#[test]
+fn theorems_on_offset_tables() {
+    let text = theorems::module(1, 300);
+    let replies = text.lines().filter(|line| line.starts_with("reply"));
+    let replies: Vec<&str> = replies.filter(|line| line.contains(" : ")).collect();
+    assert_eq!(replies.len(), 300);
+    let first = format!("(({} ∷", b'#');
+    let of = |kind| format!("({kind} {first}");
+    for (kind, least) in [("get", 5), ("next", 15), ("put", 30), ("remove", 30)] {
+        let calls = replies.iter().filter(|line| line.contains(&of(kind)));
+        assert!(calls.count() >= least, "{kind}");
+    }
+    let on_offsets = replies.iter().filter(|line| line.contains(&first));
+    for (number, least) in [(0, 40), (4, 10), (6, 10), (8, 10)] {
+        let number = format!("number = {number};");
+        let answered = on_offsets.clone().filter(|line| line.contains(&number));
+        assert!(answered.count() >= least, "{number}");
+    }
 }
 
 #[test]
