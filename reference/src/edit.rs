@@ -56,8 +56,8 @@ pub fn put(
     Ok(())
 }
 
-/// Removes a key that is there from a table that sorts so. "Taking an entry out never makes the others reach
-/// further, page breaks included" (document 02, T-07): those left have the first of the span's
+/// Removes a key that is there from a table that sorts so. "Taking an entry out never makes the others
+/// reach further, page breaks included" (document 02, T-07): those left have the first of the span's
 /// continuation pages, and the others are given back.
 pub fn remove(image: &mut [u8], table: &mut Table, sort: Sort, key: &[u8]) {
     let place = table.target(sort, key);

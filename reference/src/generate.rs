@@ -520,12 +520,12 @@ fn names(random: &mut Random, wanted: usize) -> Vec<Vec<u8>> {
 }
 
 /// Names that begin with "#", and one that only has it.
-pub const OFFSET_NAMES: [&[u8]; 5] = [b"#", b"#a", b"##", b"#sync", b"a#"];
+pub const HASH_NAMES: [&[u8]; 5] = [b"#", b"#a", b"##", b"#sync", b"a#"];
 
 /// A legal table name; one in four is that of an offset table.
 pub fn name(random: &mut Random) -> Vec<u8> {
     if random.percent(20) {
-        return random.pick(&OFFSET_NAMES).to_vec();
+        return random.pick(&HASH_NAMES).to_vec();
     }
     let length = match random.below(10) {
         0 => 255,

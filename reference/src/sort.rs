@@ -1,8 +1,8 @@
 //! How the keys of a table sort, by its name.
 //!
-//! "Every table sorts by unsigned bytes, a proper prefix first" (document 01), and so does the
-//! metaindex; but "Document 01's rule that every table sorts by unsigned bytes is wrong for" offset
-//! tables, those "whose names begin with "#"" (document 02, T-05).
+//! "Every table sorts by unsigned bytes, a proper prefix first" (document 01), the metaindex too. For
+//! "tables whose names begin with "#"", here offset tables, that rule is wrong: "there keys are exactly
+//! four bytes, two's complement, and sort as numbers from -2147483648 up" (document 02, T-05).
 
 use crate::entries::MAX_LENGTH;
 use std::cmp::Ordering;
@@ -12,8 +12,7 @@ use std::cmp::Ordering;
 pub enum Sort {
     /// Unsigned bytes, a proper prefix first.
     Bytes,
-    /// Of an offset table: "there keys are exactly four bytes, two's complement, and sort as numbers
-    /// from -2147483648 up".
+    /// Numbers of four bytes, two's complement.
     Numbers,
 }
 

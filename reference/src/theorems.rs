@@ -6,7 +6,7 @@
 use crate::check;
 use crate::encode;
 use crate::entries::Entry;
-use crate::generate::{self, Knobs, OFFSET_NAMES};
+use crate::generate::{self, Knobs, HASH_NAMES};
 use crate::layout::{Block, Layout, Span, Table, Tower};
 use crate::numbers;
 use crate::page::PAGE;
@@ -125,7 +125,7 @@ fn name(random: &mut Random, layout: &Layout) -> Vec<u8> {
     let tables = layout.tables.iter();
     let mut names: Vec<&[u8]> = tables.map(|(name, _)| name.as_slice()).collect();
     if names.is_empty() || random.percent(8) {
-        return random.pick(&OFFSET_NAMES).to_vec();
+        return random.pick(&HASH_NAMES).to_vec();
     }
     let is_offset = |name: &&[u8]| Sort::of(name) == Sort::Numbers;
     if names.iter().any(is_offset) && random.percent(60) {

@@ -15,7 +15,7 @@ use reference::entries::{self, Entry, Place};
 use reference::events;
 use reference::explain::explain;
 use reference::fuzz::{accepted, damaged, fuzz, run_call, verdicts_agree};
-use reference::generate::{self, Knobs, Sample, NEAR_END, OFFSET_NAMES};
+use reference::generate::{self, Knobs, Sample, HASH_NAMES, NEAR_END};
 use reference::layout::{Span, Table, Tower};
 use reference::ledger::{tables_of, Ledger};
 use reference::offsets::{self, before_page_end};
@@ -486,7 +486,7 @@ fn note(seen: &mut BTreeMap<String, u64>, sample: &Sample) {
 }
 
 fn note_name(add: &mut impl FnMut(&str, bool), name: &[u8]) {
-    for of_offsets in OFFSET_NAMES {
+    for of_offsets in HASH_NAMES {
         let what = format!("table {}", of_offsets.escape_ascii());
         add(&what, name == of_offsets);
     }
@@ -499,7 +499,7 @@ fn note_name(add: &mut impl FnMut(&str, bool), name: &[u8]) {
 
 /// Whether the name is none of those that come often.
 fn is_other(name: &[u8]) -> bool {
-    !OFFSET_NAMES.contains(&name)
+    !HASH_NAMES.contains(&name)
 }
 
 /// Whether "#" is in the name, but does not begin it.

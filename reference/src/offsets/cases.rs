@@ -1,8 +1,9 @@
 //! What a call on a table whose name has a "#" reaches.
 
-use super::{Filling, KEYED, OTHER_LENGTHS};
+use super::{Filling, OTHER_LENGTHS};
+use crate::check::name_rules;
 use crate::entries::{Entry, Place, MAX_LENGTH};
-use crate::generate::OFFSET_NAMES;
+use crate::generate::HASH_NAMES;
 use crate::layout::{Span, Table};
 use crate::reached::{self, held, Made};
 use crate::request::{Call, CallKind};
@@ -52,6 +53,14 @@ const FIXED: [&str; 40] = [
     "ordinary table: a key that begins with #, not of four bytes",
 ];
 
+/// The kinds of call that have a key.
+const KEYED: [CallKind; 4] = [
+    CallKind::Get,
+    CallKind::Put,
+    CallKind::Remove,
+    CallKind::Next,
+];
+
 /// Numbers that have to be put.
 const PUT: [i32; 5] = [i32::MIN, -1, 0, 1, i32::MAX];
 
@@ -63,9 +72,9 @@ pub fn all() -> Vec<String> {
         let bad = lengths.filter(|length| *length != Some(0) || kind != CallKind::Next);
         all.extend(bad.flat_map(|length| [true, false].map(|there| refused(kind, length, there))));
         all.push(no_table(kind));
-        all.extend(OFFSET_NAMES.iter().map(|name| done(kind, name)));
+        all.extend(HASH_NAMES.iter().map(|name| done(kind, name)));
     }
-    all.extend(OFFSET_NAMES.iter().map(|name| done(CallKind::Create, name)));
+    all.extend(HASH_NAMES.iter().map(|name| done(CallKind::Create, name)));
     all.extend(PUT.map(put));
     for kind in [CallKind::Get, CallKind::Put, CallKind::Next] {
         all.extend((0..=4).map(|bytes| cut(kind, bytes)));
@@ -133,13 +142,14 @@ pub fn of_filling(made: &Made<'_>, filling: Filling, count: usize) -> Vec<String
     }
 }
 
-/// What a call reaches.
+/// What a call reaches. One whose name is not legal is not counted: it is refused with 4 for that.
 pub fn of_call(made: &Made<'_>) -> Vec<String> {
-    let Some(name) = made.call.name().filter(|name| name.contains(&b'#')) else {
+    let is_counted = |name: &&[u8]| name.contains(&b'#') && name_rules(name).is_empty();
+    let Some(name) = made.call.name().filter(is_counted) else {
         return Vec::new();
     };
     let mut cases = Vec::new();
-    if made.number == 0 && OFFSET_NAMES.contains(&name) {
+    if made.number == 0 && HASH_NAMES.contains(&name) {
         cases.push(done(made.call.kind(), name));
     }
     let Some(key) = made.call.key() else {

@@ -8,14 +8,14 @@ pub use cases::{all, before_page_end};
 
 use crate::emptying;
 use crate::entries::MAX_LENGTH;
-use crate::generate::{self, Knobs, Sample, OFFSET_NAMES};
+use crate::generate::{self, Knobs, Sample, HASH_NAMES};
 use crate::layout::{Layout, Table};
 use crate::numbers;
 use crate::page::MAX_NUMBERS;
 use crate::putting;
 use crate::random::Random;
 use crate::reached::{self, Cases};
-use crate::request::{Call, CallKind};
+use crate::request::Call;
 use crate::script::{self, Script, Trend};
 use crate::sort::Sort;
 
@@ -108,7 +108,7 @@ fn name(random: &mut Random, layout: &Layout) -> Vec<u8> {
     let names = layout.tables.iter().map(|(name, _)| name);
     let there: Vec<_> = names.filter(|name| name.contains(&b'#')).collect();
     match there.is_empty() || random.percent(25) {
-        true => random.pick(&OFFSET_NAMES).to_vec(),
+        true => random.pick(&HASH_NAMES).to_vec(),
         false => random.pick(&there).to_vec(),
     }
 }
@@ -218,7 +218,7 @@ fn filled(random: &mut Random) -> (Script, Cases) {
         ..Knobs::tiny()
     };
     let sample = generate::sample(random, &knobs);
-    let name = *random.pick(&OFFSET_NAMES);
+    let name = *random.pick(&HASH_NAMES);
     let filling = *random.pick(&Filling::ALL);
     let count = random.within(6..=20);
     let calls = life(random, name, filling, count);
@@ -269,11 +269,3 @@ fn life(random: &mut Random, name: &[u8], filling: Filling, count: usize) -> Vec
     }));
     calls
 }
-
-/// The kinds of call that have a key.
-const KEYED: [CallKind; 4] = [
-    CallKind::Get,
-    CallKind::Put,
-    CallKind::Remove,
-    CallKind::Next,
-];
