@@ -4,11 +4,16 @@
 mod common;
 
 use common::{card, create, get, layout, next, put, read, remove, table};
-use reference::check::check;
+use reference::calls;
+use reference::check::{check, walk};
 use reference::encode;
+use reference::fuzz::damaged;
+use reference::layout::{Layout, Span};
 use reference::numbers::{key, MARKED};
+use reference::random::Random;
 use reference::rule::Rule;
 use reference::sort::{number, Sort};
+use std::collections::BTreeMap;
 
 /// The name of the table.
 const SYNC: &[u8] = b"#sync";
@@ -288,4 +293,85 @@ fn a_key_over_the_end_of_a_page() {
         let wrong = with_numbers(&image, &[-8, 4, -4]);
         assert_eq!(broken(&wrong), [Rule::OffsetsRising]);
     }
+}
+
+/// The keys of each offset table of a layout, by spans.
+fn offset_spans(layout: &Layout) -> Vec<Vec<Vec<&[u8]>>> {
+    let tables = layout.sorted_tables();
+    let offsets = tables.filter(|(sort, _)| *sort == Sort::Numbers);
+    offsets
+        .map(|(_, table)| table.spans.iter().map(keys_of).collect())
+        .collect()
+}
+
+fn keys_of(span: &Span) -> Vec<&[u8]> {
+    span.entries.iter().map(|entry| &entry.key[..]).collect()
+}
+
+/// In what the keys of an offset table do not rise.
+fn of_order(spans: &[Vec<&[u8]>]) -> Vec<&'static str> {
+    let keys: Vec<&[u8]> = spans.concat();
+    let falls = |pair: &[&[u8]]| Sort::Numbers.compare(pair[0], pair[1]).is_ge();
+    let within = spans.iter().any(|span| span.windows(2).any(falls));
+    let all = keys.windows(2).any(falls);
+    let mut cases = Vec::new();
+    let mut note = |case, holds: bool| cases.extend(holds.then_some(case));
+    note("in the order of bytes", all && keys.is_sorted());
+    note(
+        "equal neighbours",
+        keys.windows(2).any(|pair| pair[0] == pair[1]),
+    );
+    note("within a span", within);
+    note("only over a border of spans", all && !within);
+    cases
+}
+
+/// What lengths the keys of an offset table have that it may not hold.
+fn of_lengths(spans: &[Vec<&[u8]>]) -> Vec<&'static str> {
+    let keys: Vec<&[u8]> = spans.concat();
+    let bad = keys.iter().filter(|key| !Sort::Numbers.allows(key));
+    let lengths: Vec<usize> = bad.map(|key| key.len()).collect();
+    let mut cases = Vec::new();
+    let mut note = |case, holds: bool| cases.extend(holds.then_some(case));
+    for (case, length) in [
+        ("length 0", 0),
+        ("length 1", 1),
+        ("length 2", 2),
+        ("length 3", 3),
+        ("length 5", 5),
+    ] {
+        note(case, lengths.contains(&length));
+    }
+    note(
+        "length over 1000",
+        lengths.iter().any(|length| *length > 1000),
+    );
+    note("one key", lengths.len() == 1 && keys.len() > 1);
+    note("all keys", lengths.len() == keys.len() && keys.len() > 1);
+    let rise = keys.windows(2).all(|pair| pair[0] < pair[1]);
+    note("in the order of bytes", !lengths.is_empty() && rise);
+    cases
+}
+
+/// Damages of this rule are refused for it alone, and so many cases come among them.
+fn assert_damages(rule: Rule, kinds: usize, cases: fn(&[Vec<&[u8]>]) -> Vec<&'static str>) {
+    let mut random = Random::new(41);
+    let mut seen: BTreeMap<&str, u32> = BTreeMap::new();
+    for _ in 0..400 {
+        let (_, image) = damaged(&mut random, rule).expect("an image to damage");
+        assert!(broken(&image).iter().all(|one| *one == rule));
+        assert_eq!(calls::check(&image, &mut vec![0; image.len()]).number, 3);
+        let (layout, _) = walk(&image).expect("a right length");
+        for case in offset_spans(&layout).iter().flat_map(|spans| cases(spans)) {
+            *seen.entry(case).or_default() += 1;
+        }
+    }
+    assert_eq!(seen.len(), kinds, "{seen:?}");
+    assert!(seen.values().all(|count| *count >= 5), "{seen:?}");
+}
+
+#[test]
+fn offsets_are_damaged_in_every_way() {
+    assert_damages(Rule::OffsetsRising, 4, of_order);
+    assert_damages(Rule::OffsetLength, 9, of_lengths);
 }
