@@ -5,8 +5,9 @@
 //! staged in the scratch, which is zero, and copied to the image whole; the scratch is zero again
 //! afterwards. A remove takes no page, so it stages what is left without a plan.
 
-use super::entry::{Entries, Slices};
+use super::entry::Entries;
 use super::free;
+use super::order::{Keys, Slices};
 use super::page::{link, page, page_mut, set_mark, set_u16, set_u32, u16_at, u32_at, Page};
 use super::plan::{change_counts, neighbours, size_of, write_span, write_tower, Plan};
 use super::search::{self, Path, Table};
@@ -21,7 +22,7 @@ const NEW_TABLE: usize = 3;
 const NEW_HEAD_MAX: u16 = 12;
 
 /// Puts a value under a key of a table.
-pub fn put(
+pub fn put<K: Keys>(
     pages: &mut [Page],
     staged: &mut [Page],
     free: u64,
@@ -29,7 +30,7 @@ pub fn put(
     key: &[u8],
     value: &[u8],
 ) -> Result<(), Refusal> {
-    let plan = Plan::new(pages, table, key, value.len());
+    let plan = Plan::new::<K>(pages, table, key, value.len());
     let mut draw = plan.draw(pages, free, 0)?;
     let new = plan.link(pages, staged, &mut draw);
     plan.stage(pages, staged, value);
@@ -45,7 +46,7 @@ pub fn create(
     free: u64,
     name: &[u8],
 ) -> Result<(), Refusal> {
-    let plan = Plan::new(pages, Table::metaindex(pages), name, 4);
+    let plan = Plan::new::<Slices>(pages, Table::metaindex(pages), name, 4);
     if plan.replaces() {
         return Err(Refusal::TableExists);
     }
@@ -61,19 +62,19 @@ pub fn create(
 }
 
 /// Removes a key.
-pub fn remove(
+pub fn remove<K: Keys>(
     pages: &mut [Page],
     staged: &mut [Page],
     table: Table,
     key: &[u8],
 ) -> Result<(), Refusal> {
-    let target = table.target::<Slices>(pages, key).span;
-    let spot = search::spot::<Slices>(pages, target, key);
+    let target = table.target::<K>(pages, key).span;
+    let spot = search::spot::<K>(pages, target, key);
     if spot.entry.is_none() {
         return Err(Refusal::NoSuchKey);
     }
     if size_of(pages, target) == 1 && target != table.first_span {
-        unlink(pages, table, key, target);
+        unlink::<K>(pages, table, key, target);
     } else {
         rewrite_without(pages, staged, table, target, spot.below);
     }
@@ -126,8 +127,8 @@ fn write_new_table(pages: &mut [Page], root: u32, span: u32, head: u32) {
 
 /// Unlinks a span with this one key that is not the first, its tower (if any) too, and gives
 /// their pages back: continuation pages in chain order, span, tower.
-fn unlink(pages: &mut [Page], table: Table, key: &[u8], number: u32) {
-    let path = table.before::<Slices>(pages, key);
+fn unlink<K: Keys>(pages: &mut [Page], table: Table, key: &[u8], number: u32) {
+    let path = table.before::<K>(pages, key);
     let next = u32_at(page(pages, number), span::NEXT);
     set_u32(page_mut(pages, path.span), span::NEXT, next);
     if next != 0 {

@@ -10,6 +10,7 @@
 mod edit;
 mod entry;
 mod free;
+mod order;
 mod page;
 mod plan;
 mod search;
@@ -18,8 +19,10 @@ mod verify;
 
 use crate::calls::{Answer, Refusal};
 use crate::entries::MAX_LENGTH;
+use crate::sort::Sort;
 use entry::Run;
-pub use entry::{ByteLoop, Order, Slices};
+pub use order::{ByteLoop, Order, Slices};
+use order::{Keys, Numbers};
 use page::Page;
 use search::Table;
 use verify::{legal_name, Counts};
@@ -55,8 +58,12 @@ pub fn get_by<C: Order, S: Order>(
     key: &[u8],
     into: &mut [u8],
 ) -> Answer {
-    let value = |pages: &[Page], table: Table| Some(table.entry::<S>(pages, key)?.value);
-    let read = read::<C, S>(image, scratch, name, legal_key(key), value, into);
+    let entry = match Sort::of(name) {
+        Sort::Bytes => Table::entry::<S>,
+        Sort::Numbers => Table::entry::<Numbers>,
+    };
+    let value = |pages: &[Page], table: Table| Some(entry(&table, pages, key)?.value);
+    let read = read::<C, S>(image, scratch, name, legal_key(name, key), value, into);
     read.unwrap_or_else(Answer::from)
 }
 
@@ -73,8 +80,12 @@ pub fn next_by<C: Order, S: Order>(
     key: &[u8],
     into: &mut [u8],
 ) -> Answer {
-    let above = |pages: &[Page], table: Table| table.above::<S>(pages, key);
-    let legal_key = key.len() <= MAX_LENGTH;
+    let above = match Sort::of(name) {
+        Sort::Bytes => Table::above::<S>,
+        Sort::Numbers => Table::above::<Numbers>,
+    };
+    let above = |pages: &[Page], table: Table| above(&table, pages, key);
+    let legal_key = key.is_empty() || legal_key(name, key);
     let read = read::<C, S>(image, scratch, name, legal_key, above, into);
     read.unwrap_or_else(Answer::from)
 }
@@ -97,10 +108,14 @@ fn read<C: Order, S: Order>(
 
 /// Puts a value under a key.
 pub fn put(image: &mut [u8], scratch: &mut [u8], name: &[u8], key: &[u8], value: &[u8]) -> Answer {
-    done(try_put(image, scratch, name, key, value))
+    let put = match Sort::of(name) {
+        Sort::Bytes => try_put::<Slices>,
+        Sort::Numbers => try_put::<Numbers>,
+    };
+    done(put(image, scratch, name, key, value))
 }
 
-fn try_put(
+fn try_put<K: Keys>(
     image: &mut [u8],
     scratch: &mut [u8],
     name: &[u8],
@@ -108,29 +123,33 @@ fn try_put(
     value: &[u8],
 ) -> Result<(), Refusal> {
     let (pages, counts) = open::<Slices>(image, scratch)?;
-    require(legal_name(name) && legal_key(key), Refusal::NameOrKey)?;
+    require(legal_name(name) && legal_key(name, key), Refusal::NameOrKey)?;
     require(value.len() <= MAX_LENGTH, Refusal::ValueLength)?;
     let table = Table::named::<Slices>(pages, name).ok_or(Refusal::NoSuchTable)?;
     let (pages, staged) = lent(image, scratch);
-    edit::put(pages, staged, counts.free, table, key, value)
+    edit::put::<K>(pages, staged, counts.free, table, key, value)
 }
 
 /// Removes a key.
 pub fn remove(image: &mut [u8], scratch: &mut [u8], name: &[u8], key: &[u8]) -> Answer {
-    done(try_remove(image, scratch, name, key))
+    let remove = match Sort::of(name) {
+        Sort::Bytes => try_remove::<Slices>,
+        Sort::Numbers => try_remove::<Numbers>,
+    };
+    done(remove(image, scratch, name, key))
 }
 
-fn try_remove(
+fn try_remove<K: Keys>(
     image: &mut [u8],
     scratch: &mut [u8],
     name: &[u8],
     key: &[u8],
 ) -> Result<(), Refusal> {
     let (pages, _) = open::<Slices>(image, scratch)?;
-    require(legal_name(name) && legal_key(key), Refusal::NameOrKey)?;
+    require(legal_name(name) && legal_key(name, key), Refusal::NameOrKey)?;
     let table = Table::named::<Slices>(pages, name).ok_or(Refusal::NoSuchTable)?;
     let (pages, staged) = lent(image, scratch);
-    edit::remove(pages, staged, table, key)
+    edit::remove::<K>(pages, staged, table, key)
 }
 
 /// Creates a table.
@@ -177,8 +196,8 @@ fn require(holds: bool, refusal: Refusal) -> Result<(), Refusal> {
     }
 }
 
-fn legal_key(key: &[u8]) -> bool {
-    (1..=MAX_LENGTH).contains(&key.len())
+fn legal_key(name: &[u8], key: &[u8]) -> bool {
+    Sort::of(name).allows(key)
 }
 
 /// Copies the answer to the start of the buffer.

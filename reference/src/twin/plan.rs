@@ -1,7 +1,8 @@
 //! What becomes of the target span of a put or create, and writing it.
 
-use super::entry::{Entries, Slices};
+use super::entry::Entries;
 use super::free::{count_chain, Draw};
+use super::order::Keys;
 use super::page::{link, page, page_mut, set_mark, set_u16, set_u32, u16_at, u32_at, Page};
 use super::search::{self, Path, Table};
 use super::stage::{self, Bytes, Writer};
@@ -43,9 +44,9 @@ pub struct New {
 
 impl<'a> Plan<'a> {
     /// The plan to put a value of this length under a key.
-    pub fn new(pages: &[Page], table: Table, key: &'a [u8], value: usize) -> Plan<'a> {
-        let path = table.target::<Slices>(pages, key);
-        let spot = search::spot::<Slices>(pages, path.span, key);
+    pub fn new<K: Keys>(pages: &[Page], table: Table, key: &'a [u8], value: usize) -> Plan<'a> {
+        let path = table.target::<K>(pages, key);
+        let spot = search::spot::<K>(pages, path.span, key);
         let replaces = spot.entry.is_some();
         let size = size_of(pages, path.span) + usize::from(!replaces);
         let splits = size > usize::from(table.span_size);

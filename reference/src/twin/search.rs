@@ -1,6 +1,7 @@
 //! Finding a table, a key's target span, and a key, on an accepted image.
 
-use super::entry::{first_key, Entries, Entry, Order, Run};
+use super::entry::{first_key, Entries, Entry, Run};
+use super::order::{Keys, Order};
 use super::page::{page, u16_at, u32_at, Page};
 use crate::page::{skip_list, span, tower, tower_entry, MAX_NUMBERS, METAINDEX};
 use std::cmp::Ordering;
@@ -58,16 +59,16 @@ impl Table {
     }
 
     /// The entry of a key.
-    pub fn entry<O: Order>(&self, pages: &[Page], key: &[u8]) -> Option<Entry> {
-        let target = self.target::<O>(pages, key).span;
-        spot::<O>(pages, target, key).entry
+    pub fn entry<K: Keys>(&self, pages: &[Page], key: &[u8]) -> Option<Entry> {
+        let target = self.target::<K>(pages, key).span;
+        spot::<K>(pages, target, key).entry
     }
 
     /// The smallest key above the one asked.
-    pub fn above<O: Order>(&self, pages: &[Page], key: &[u8]) -> Option<Run> {
-        let target = self.target::<O>(pages, key).span;
+    pub fn above<K: Keys>(&self, pages: &[Page], key: &[u8]) -> Option<Run> {
+        let target = self.target::<K>(pages, key).span;
         let mut keys = Entries::of(pages, target).map(|entry| entry.key);
-        let above = keys.find(|one| one.cmp_bytes::<O>(pages, key).is_gt());
+        let above = keys.find(|one| K::compare(pages, *one, key).is_gt());
         above.or_else(|| {
             let next = u32_at(page(pages, target), span::NEXT);
             (next != 0).then(|| first_key(pages, next))
@@ -75,17 +76,13 @@ impl Table {
     }
 
     /// The way to the target span of a key.
-    pub fn target<O: Order>(&self, pages: &[Page], key: &[u8]) -> Path {
-        self.descend(pages, |first| {
-            first.cmp_bytes::<O>(pages, key) != Ordering::Greater
-        })
+    pub fn target<K: Keys>(&self, pages: &[Page], key: &[u8]) -> Path {
+        self.descend(pages, |first| K::compare(pages, first, key).is_le())
     }
 
     /// The way to the span before the one that begins with this key.
-    pub fn before<O: Order>(&self, pages: &[Page], key: &[u8]) -> Path {
-        self.descend(pages, |first| {
-            first.cmp_bytes::<O>(pages, key) == Ordering::Less
-        })
+    pub fn before<K: Keys>(&self, pages: &[Page], key: &[u8]) -> Path {
+        self.descend(pages, |first| K::compare(pages, first, key).is_lt())
     }
 
     /// The way to the last span whose first key passes, or the first span. The key that stopped a
@@ -124,10 +121,10 @@ pub fn span_of(pages: &[Page], tower: u32) -> u32 {
 }
 
 /// Where a key is, or would be, in a span.
-pub fn spot<O: Order>(pages: &[Page], span: u32, key: &[u8]) -> Spot {
+pub fn spot<K: Keys>(pages: &[Page], span: u32, key: &[u8]) -> Spot {
     let mut below = 0;
     for entry in Entries::of(pages, span) {
-        match entry.key.cmp_bytes::<O>(pages, key) {
+        match K::compare(pages, entry.key, key) {
             Ordering::Less => below += 1,
             Ordering::Equal => {
                 let entry = Some(entry);

@@ -5,12 +5,14 @@
 //! once, in its head, and of its other bytes nothing is read before: so the pass ends on any bytes,
 //! in time linear in the image.
 
-use super::entry::{self, Entries, Key, Order, Place};
+use super::entry::{self, Entries, Place};
+use super::order::{read_on_page, Keys, Numbers, Order};
 use super::page::{bears, page, u16_at, u32_at, Behind, Head, Page, BEHIND, HEAD};
 use crate::page::{
     block, listed_number, skip_list, span, superblock, tower, Kind, MAX_NUMBERS, METAINDEX, PAGE,
     SUPERBLOCK,
 };
+use crate::sort::Sort;
 
 /// What an accepted image holds: check's counts but for P.
 #[derive(Clone, Copy, Debug)]
@@ -137,10 +139,16 @@ impl<'a> Walk<'a> {
         while number != 0 {
             for entry in Entries::of(pages, number) {
                 holds(entry.key.length <= 255 && entry.value.length == 4)?;
-                holds(entry.key.parts(pages).all(legal_bytes))?;
+                let mut name = entry.key.parts(pages);
+                let first = name.next()?;
+                holds(legal_bytes(first) && name.all(legal_bytes))?;
                 let mut root = [0; 4];
                 entry.value.copy_to(pages, &mut root);
-                keys += u64::from(self.table::<O>(u32::from_be_bytes(root))?);
+                let root = u32::from_be_bytes(root);
+                keys += u64::from(match Sort::of(first) {
+                    Sort::Bytes => self.table::<O>(root)?,
+                    Sort::Numbers => self.table::<Numbers>(root)?,
+                });
             }
             number = u32_at(page(pages, number), span::NEXT);
         }
@@ -148,7 +156,7 @@ impl<'a> Walk<'a> {
     }
 
     /// A table, or the metaindex, from its skip-list page; gives its keys.
-    fn table<O: Order>(&mut self, root: u32) -> Option<u32> {
+    fn table<K: Keys>(&mut self, root: u32) -> Option<u32> {
         self.claim(root, Kind::SkipList)?;
         let list = page(self.pages, root);
         let span_size = u16_at(list, skip_list::SPAN_SIZE);
@@ -156,12 +164,12 @@ impl<'a> Walk<'a> {
         let first = u32_at(list, skip_list::FIRST_SPAN);
         let mut levels = self.head(u32_at(list, skip_list::FIRST_LEVEL), first)?;
         let (mut keys, mut spans) = (0, 0);
-        let mut last = Key::EMPTY;
+        let mut last = K::NONE;
         let (mut previous, mut number) = (0, first);
         loop {
             let head = self.claim(number, Kind::Span)?;
             holds(u32_at(&head, span::PREVIOUS) == previous)?;
-            let size = self.span::<O>(number, span_size, &mut last)?;
+            let size = self.span::<K>(number, span_size, &mut last)?;
             if spans > 0 {
                 holds(size > 0)?;
                 self.tower(number, &mut levels)?;
@@ -182,7 +190,7 @@ impl<'a> Walk<'a> {
 
     /// The entries of a span, which is claimed, and its continuation pages; gives its size. The
     /// keys have to rise from the last one met, so none of them is empty.
-    fn span<O: Order>(&mut self, number: u32, span_size: u16, last: &mut Key) -> Option<u16> {
+    fn span<K: Keys>(&mut self, number: u32, span_size: u16, last: &mut K::Key) -> Option<u16> {
         let pages = self.pages;
         let sizes = self.behind(number);
         let size = u16_at(sizes, span::SIZE - HEAD);
@@ -190,11 +198,11 @@ impl<'a> Walk<'a> {
         let mut at = Place::start(number);
         let mut before = *last;
         for _ in 0..size {
-            let (key, after) = match entry::read_on_page(page(pages, at.page), at) {
+            let (key, after) = match read_on_page::<K>(page(pages, at.page), at) {
                 Some(read) => read,
-                None => self.entry_over_pages(at)?,
+                None => self.entry_over_pages::<K>(at)?,
             };
-            holds(before.is_below::<O>(pages, &key))?;
+            holds(K::is_below(pages, &before, &key))?;
             (before, at) = (key, after);
         }
         *last = before;
@@ -204,10 +212,11 @@ impl<'a> Walk<'a> {
 
     /// The key of an entry that does not lie on one page whole, and the place after the entry.
     #[cold]
-    fn entry_over_pages(&mut self, at: Place) -> Option<(Key, Place)> {
+    fn entry_over_pages<K: Keys>(&mut self, at: Place) -> Option<(K::Key, Place)> {
         let pages = self.pages;
         let (entry, after) = entry::read(pages, at, &mut |from| self.continuation(from))?;
-        Some((Key::of(pages, entry.key), after))
+        holds(K::allows(entry.key.length))?;
+        Some((K::over_pages(pages, entry.key), after))
     }
 
     /// Claims the continuation page after one of a span's pages.
