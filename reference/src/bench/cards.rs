@@ -4,11 +4,16 @@ use crate::encode;
 use crate::entries::{self, Entry, MAX_LENGTH};
 use crate::generate::Sample;
 use crate::layout::{Block, Layout, Span, Table, Tower};
+use crate::numbers;
 use crate::page::{self, continuation, skip_list, span, MAX_NUMBERS, METAINDEX, PAGE};
 use crate::random::Random;
+use std::collections::BTreeSet;
 
-/// The name of the table in images with one table.
+/// The name of the table in images with one table, unless it is an offset table.
 pub const NAME: &[u8] = b"bench";
+
+/// The name of the offset table.
+pub const OFFSETS_NAME: &[u8] = b"#bench";
 
 /// What fills an image.
 #[derive(Clone, Copy, Debug, PartialEq, Eq)]
@@ -21,6 +26,9 @@ pub enum Filling {
     ManyTiny,
     /// Entries of 24 bytes, with keys of 16 bytes, of which the first eight are the same; 126 in a span.
     SharedPrefixes,
+    /// An offset table: entries of eight bytes, with random numbers as keys; 126 in a span, with the
+    /// towers that puts make.
+    Offsets,
     /// Serial numbers of this many bytes, of which the first half is the same for all; 126 in a span.
     Serials(usize),
     /// Spans of two small entries, with the towers that puts make.
@@ -43,11 +51,12 @@ pub enum Filling {
 
 impl Filling {
     /// All fillings.
-    pub const ALL: [Filling; 17] = [
+    pub const ALL: [Filling; 18] = [
         Filling::ManySmall,
         Filling::FullSpans,
         Filling::ManyTiny,
         Filling::SharedPrefixes,
+        Filling::Offsets,
         Filling::Serials(16),
         Filling::Serials(24),
         Filling::Serials(32),
@@ -70,6 +79,7 @@ impl Filling {
             Filling::FullSpans => "full spans",
             Filling::ManyTiny => "many tiny entries",
             Filling::SharedPrefixes => "shared prefixes",
+            Filling::Offsets => "offset table",
             Filling::Serials(length) => return format!("serial numbers of {length} bytes"),
             Filling::SmallSpans => "small spans",
             Filling::SingleKeys => "spans of one key",
@@ -88,11 +98,12 @@ impl Filling {
         self != Filling::LongKeys || pages >= 64
     }
 
-    /// Entry `place` of the table.
+    /// Entry `place` of the table; that of an offset table gets its key when all are there.
     pub fn entry(self, place: usize) -> Entry {
         let key = match self {
             Filling::ManyTiny => (place as u32).to_be_bytes()[1..].to_vec(),
             Filling::SharedPrefixes => behind(8, place),
+            Filling::Offsets => vec![0; 4],
             Filling::Serials(length) => serial(length, place),
             Filling::LongKeys => behind(16_000, place),
             _ => small_key(place),
@@ -110,9 +121,11 @@ impl Filling {
     /// else of the table.
     fn span_size(self) -> (u16, usize) {
         match self {
-            Filling::ManySmall | Filling::SharedPrefixes | Filling::Serials(_) | Filling::Free => {
-                (128, 126)
-            }
+            Filling::ManySmall
+            | Filling::SharedPrefixes
+            | Filling::Offsets
+            | Filling::Serials(_)
+            | Filling::Free => (128, 126),
             Filling::FullSpans => (126, 126),
             Filling::ManyTiny => (128, 128),
             Filling::SmallSpans => (4, 2),
@@ -185,6 +198,11 @@ pub fn sample(filling: Filling, pages: usize, used: usize) -> Sample {
     let tables = match filling {
         Filling::Free => Vec::new(),
         Filling::Tables | Filling::FullNames => many_tables(filling, used - 4),
+        Filling::Offsets => {
+            let mut table = filled(filling, used - 4);
+            set_offsets(&mut table);
+            vec![(OFFSETS_NAME.to_vec(), table)]
+        }
         _ => vec![(NAME.to_vec(), filled(filling, used - 4))],
     };
     let names = tables.iter().map(|(name, _)| name.clone()).collect();
@@ -214,6 +232,20 @@ fn filled(filling: Filling, budget: usize) -> Table {
         table.spans.push(span);
     }
     table
+}
+
+/// Gives the entries of a table random numbers as keys, of both signs. Odd numbers are left out, so that
+/// there is room between keys.
+fn set_offsets(table: &mut Table) {
+    let mut random = Random::new(1);
+    let mut numbers = BTreeSet::new();
+    while numbers.len() < table.keys() {
+        numbers.insert(random.next_u64() as i32 & !1);
+    }
+    let entries = table.spans.iter_mut().flat_map(|span| &mut span.entries);
+    for (entry, number) in entries.zip(numbers) {
+        entry.key = numbers::key(number);
+    }
 }
 
 /// The span with its last entries left out, so that it has at most so many continuation pages;

@@ -1,6 +1,6 @@
 //! The calls that are timed, and the images they are made on.
 
-use super::cards::{self, Filling};
+use super::cards::{self, Filling, NAME, OFFSETS_NAME};
 use crate::entries::MAX_LENGTH;
 use crate::layout::Table;
 use crate::request::{Call, Request};
@@ -9,10 +9,11 @@ use crate::request::{Call, Request};
 const SIZES: [usize; 3] = [8, 256, 4096];
 
 /// The fillings that are checked.
-const FILLINGS: [Filling; 8] = [
+const FILLINGS: [Filling; 9] = [
     Filling::ManySmall,
     Filling::ManyTiny,
     Filling::SharedPrefixes,
+    Filling::Offsets,
     Filling::FewLarge,
     Filling::LongKeys,
     Filling::Towers,
@@ -96,8 +97,9 @@ fn cases_on(filling: Filling, pages: usize, free: usize, calls: CallsOn) -> Vec<
 type CallsOn = fn(&Table) -> Vec<(&'static str, Call)>;
 
 /// What fills an image, about how many pages are free, and the calls to make.
-const CALLS: [(Filling, usize, CallsOn); 9] = [
+const CALLS: [(Filling, usize, CallsOn); 10] = [
     (Filling::ManySmall, 80, small_calls),
+    (Filling::Offsets, 80, offset_calls),
     (Filling::FullSpans, 80, split_calls),
     (Filling::SmallSpans, 80, small_span_calls),
     (Filling::SingleKeys, 80, emptying_calls),
@@ -111,23 +113,23 @@ const CALLS: [(Filling, usize, CallsOn); 9] = [
 /// The calls on images of this many pages with serial numbers as keys.
 const SERIAL_CALLS: [(usize, CallsOn); 2] = [(256, serial_calls), (4096, check_alone)];
 
-fn get(key: Vec<u8>) -> Call {
-    let name = cards::NAME.to_vec();
+fn get(name: &[u8], key: Vec<u8>) -> Call {
+    let name = name.to_vec();
     Call::Get { name, key }
 }
 
-fn next(key: Vec<u8>) -> Call {
-    let name = cards::NAME.to_vec();
+fn next(name: &[u8], key: Vec<u8>) -> Call {
+    let name = name.to_vec();
     Call::Next { name, key }
 }
 
-fn put(key: Vec<u8>, length: usize) -> Call {
-    let (name, value) = (cards::NAME.to_vec(), vec![0x77; length]);
+fn put(name: &[u8], key: Vec<u8>, length: usize) -> Call {
+    let (name, value) = (name.to_vec(), vec![0x77; length]);
     Call::Put { name, key, value }
 }
 
-fn remove(key: Vec<u8>) -> Call {
-    let name = cards::NAME.to_vec();
+fn remove(name: &[u8], key: Vec<u8>) -> Call {
+    let name = name.to_vec();
     Call::Remove { name, key }
 }
 
@@ -155,20 +157,39 @@ fn small_calls(table: &Table) -> Vec<(&'static str, Call)> {
     let key = cards::small_key;
     vec![
         ("check", Call::Check),
-        ("get first key", get(key(0))),
-        ("get last key", get(key(last))),
-        ("get missing key", get(missing(keys / 2))),
-        ("next of the empty key", next(Vec::new())),
-        ("next of a key", next(key(keys / 2))),
-        ("next of the last key", next(key(last))),
-        ("put, value replaced", put(key(keys / 2), 4)),
-        ("put, new key", put(missing(keys / 2), 4)),
-        ("put, 65,535 bytes", put(missing(keys / 2), MAX_LENGTH)),
-        ("remove first key", remove(key(0))),
-        ("remove last key", remove(key(last))),
-        ("remove missing key", remove(missing(keys / 2))),
+        ("get first key", get(NAME, key(0))),
+        ("get last key", get(NAME, key(last))),
+        ("get missing key", get(NAME, missing(keys / 2))),
+        ("next of the empty key", next(NAME, Vec::new())),
+        ("next of a key", next(NAME, key(keys / 2))),
+        ("next of the last key", next(NAME, key(last))),
+        ("put, value replaced", put(NAME, key(keys / 2), 4)),
+        ("put, new key", put(NAME, missing(keys / 2), 4)),
+        (
+            "put, 65,535 bytes",
+            put(NAME, missing(keys / 2), MAX_LENGTH),
+        ),
+        ("remove first key", remove(NAME, key(0))),
+        ("remove last key", remove(NAME, key(last))),
+        ("remove missing key", remove(NAME, missing(keys / 2))),
         ("create", create(b"another")),
-        ("create, there already", create(cards::NAME)),
+        ("create, there already", create(NAME)),
+    ]
+}
+
+/// Calls on an offset table. The numbers that are there are even, so the one after any is missing.
+fn offset_calls(table: &Table) -> Vec<(&'static str, Call)> {
+    let middle = table.entries().nth(table.keys() / 2);
+    let key = middle.map_or(Vec::new(), |entry| entry.key.clone());
+    let mut missing = key.clone();
+    missing[3] |= 1;
+    vec![
+        ("check", Call::Check),
+        ("get last key", get(OFFSETS_NAME, last_key(table))),
+        ("next of the empty key", next(OFFSETS_NAME, Vec::new())),
+        ("next of a key", next(OFFSETS_NAME, key)),
+        ("put, new key", put(OFFSETS_NAME, missing, 4)),
+        ("remove last key", remove(OFFSETS_NAME, last_key(table))),
     ]
 }
 
@@ -184,19 +205,22 @@ fn serial_calls(table: &Table) -> Vec<(&'static str, Call)> {
         ("check", Call::Check),
         (
             "get, key in the middle of a span",
-            get(entries[middle].key.clone()),
+            get(NAME, entries[middle].key.clone()),
         ),
-        ("get, last key of a span", get(entries[last].key.clone())),
+        (
+            "get, last key of a span",
+            get(NAME, entries[last].key.clone()),
+        ),
     ]
 }
 
 fn split_calls(table: &Table) -> Vec<(&'static str, Call)> {
     let keys = table.keys();
     vec![
-        ("put, new key, split", put(missing(keys / 2), 4)),
+        ("put, new key, split", put(NAME, missing(keys / 2), 4)),
         (
             "put, 65,535 bytes, split",
-            put(missing(keys / 2), MAX_LENGTH),
+            put(NAME, missing(keys / 2), MAX_LENGTH),
         ),
     ]
 }
@@ -205,7 +229,7 @@ fn small_span_calls(table: &Table) -> Vec<(&'static str, Call)> {
     let key = cards::small_key(table.keys() / 2);
     vec![
         ("check", Call::Check),
-        ("remove, key of a small span", remove(key)),
+        ("remove, key of a small span", remove(NAME, key)),
     ]
 }
 
@@ -218,9 +242,15 @@ fn emptying_calls(table: &Table) -> Vec<(&'static str, Call)> {
     let towered = half.next_power_of_two() / 2 - 1;
     vec![
         ("check", Call::Check),
-        ("remove, first span emptied", remove(key(0))),
-        ("remove, span without tower emptied", remove(key(bare))),
-        ("remove, span with tower emptied", remove(key(towered))),
+        ("remove, first span emptied", remove(NAME, key(0))),
+        (
+            "remove, span without tower emptied",
+            remove(NAME, key(bare)),
+        ),
+        (
+            "remove, span with tower emptied",
+            remove(NAME, key(towered)),
+        ),
     ]
 }
 
@@ -228,23 +258,26 @@ fn large_calls(table: &Table) -> Vec<(&'static str, Call)> {
     let key = cards::small_key;
     vec![
         ("check", Call::Check),
-        ("get first key, 65,535 bytes", get(key(0))),
-        ("get last key", get(last_key(table))),
-        ("get missing key", get(missing(table.keys() / 2))),
-        ("next of the first key", next(key(0))),
-        ("put, 65,535 bytes replaced", put(key(0), MAX_LENGTH)),
-        ("put, 65,535 bytes by 4", put(key(0), 4)),
-        ("put, new key, 65,535 bytes", put(missing(0), MAX_LENGTH)),
-        ("remove 65,535 bytes", remove(key(0))),
-        ("remove last key", remove(last_key(table))),
+        ("get first key, 65,535 bytes", get(NAME, key(0))),
+        ("get last key", get(NAME, last_key(table))),
+        ("get missing key", get(NAME, missing(table.keys() / 2))),
+        ("next of the first key", next(NAME, key(0))),
+        ("put, 65,535 bytes replaced", put(NAME, key(0), MAX_LENGTH)),
+        ("put, 65,535 bytes by 4", put(NAME, key(0), 4)),
+        (
+            "put, new key, 65,535 bytes",
+            put(NAME, missing(0), MAX_LENGTH),
+        ),
+        ("remove 65,535 bytes", remove(NAME, key(0))),
+        ("remove last key", remove(NAME, last_key(table))),
     ]
 }
 
 fn crowded_calls(_: &Table) -> Vec<(&'static str, Call)> {
     vec![
-        ("put, no room", put(missing(0), MAX_LENGTH)),
+        ("put, no room", put(NAME, missing(0), MAX_LENGTH)),
         ("create, no room", create(b"another")),
-        ("remove, no page free", remove(cards::small_key(0))),
+        ("remove, no page free", remove(NAME, cards::small_key(0))),
     ]
 }
 
@@ -254,10 +287,10 @@ fn tower_calls(table: &Table) -> Vec<(&'static str, Call)> {
     let key = cards::small_key;
     vec![
         ("check", Call::Check),
-        ("get last key", get(key(last))),
-        ("put, new key, no split", put(missing(keys / 2), 4)),
-        ("remove, span unlinked", remove(key(last / 2))),
-        ("remove, last span unlinked", remove(key(last))),
+        ("get last key", get(NAME, key(last))),
+        ("put, new key, no split", put(NAME, missing(keys / 2), 4)),
+        ("remove, span unlinked", remove(NAME, key(last / 2))),
+        ("remove, last span unlinked", remove(NAME, key(last))),
     ]
 }
 
