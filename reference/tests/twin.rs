@@ -15,6 +15,7 @@ use reference::page::write_u32;
 use reference::random::Random;
 use reference::request::{Call, CallKind, Request};
 use reference::rule::Rule;
+use reference::sort;
 
 #[test]
 fn images_are_checked_alike() {
@@ -105,6 +106,36 @@ fn serial_numbers_of_the_benchmark() {
             "{} {}",
             case.call, case.image_name
         );
+    }
+}
+
+/// How many keys each row of the offset table adds.
+const OFFSET_ROWS: [(&str, i64); 6] = [
+    ("check", 0),
+    ("get last key", 0),
+    ("next of the empty key", 0),
+    ("next of a key", 0),
+    ("put, new key", 1),
+    ("remove last key", -1),
+];
+
+#[test]
+fn offset_table_of_the_benchmark() {
+    let mut cases = call_cases();
+    cases.retain(|case| case.image_name == Filling::Offsets.name());
+    assert_eq!(cases.len(), 2 * OFFSET_ROWS.len());
+    for (case, (row, more)) in cases.iter().zip(OFFSET_ROWS.repeat(2)) {
+        assert_eq!(case.call, row);
+        let outcome = TWIN.run(&case.image, &case.request).expect("a call");
+        assert_eq!(outcome.answer.number, 0, "{row}");
+        let layout = |image: &[u8]| check(image).expect("well-formed");
+        let (before, after) = (layout(&case.image), layout(&outcome.image));
+        let added = after.keys() as i64 - before.keys() as i64;
+        assert_eq!(added, more, "{row}");
+        let numbers = before.tables[0].1.entries();
+        let numbers = numbers.map(|entry| sort::number(&entry.key).expect("a number"));
+        let negative = numbers.filter(|number| *number < 0).count();
+        assert!((before.keys() / 3..before.keys() * 2 / 3).contains(&negative));
     }
 }
 

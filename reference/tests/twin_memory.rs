@@ -2,6 +2,7 @@
 
 use reference::compare::programs::TWIN;
 use reference::fuzz::CALLS;
+use reference::offsets;
 use reference::script::{script, Script};
 use std::alloc::{GlobalAlloc, Layout, System};
 use std::cell::Cell;
@@ -42,19 +43,25 @@ fn run(script: &Script) -> u64 {
     asked
 }
 
+/// Lists of any calls, and of calls on offset tables.
+fn lists() -> Vec<Script> {
+    let of_seed = |seed| [script(seed, CALLS), offsets::script(seed).0];
+    (0..100).flat_map(of_seed).collect()
+}
+
 #[test]
 fn no_heap() {
     let before = ASKED.get();
     drop(vec![1]);
     assert_eq!(ASKED.get(), before + 1);
-    for seed in 0..100 {
-        assert_eq!(run(&script(seed, CALLS)), 0, "list {seed}");
+    for (place, list) in lists().iter().enumerate() {
+        assert_eq!(run(list), 0, "list {place}");
     }
 }
 
 #[test]
 fn little_stack() {
-    let scripts: Vec<Script> = (0..100).map(|seed| script(seed, CALLS)).collect();
+    let scripts = lists();
     thread::scope(|scope| {
         let small = thread::Builder::new().stack_size(32 * 1024);
         let calls = || scripts.iter().map(run).sum::<u64>();
