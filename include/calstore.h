@@ -9,6 +9,9 @@
  *
  * The scratch is memory for the call's own work, at least as long as the image. Its first image_len bytes are 0 after
  * every call but those that are refused with 1 or 2, which write nothing; its other bytes stay.
+ *
+ * A table sorts its keys by unsigned bytes, a proper prefix first. A table whose name begins with "#" is an offset table: its
+ * keys have exactly four bytes, a signed number in two's complement, high byte first, and sort as these numbers.
  */
 #ifndef CALSTORE_H
 #define CALSTORE_H
@@ -26,7 +29,8 @@ enum calstore_refusal {
     CALSTORE_IMAGE_LENGTH = 1,    /* the image is not 4 to 4096 pages of 1024 bytes */
     CALSTORE_SCRATCH_LENGTH = 2,  /* the scratch is shorter than the image */
     CALSTORE_NOT_WELL_FORMED = 3, /* the image is not well-formed */
-    CALSTORE_NAME_OR_KEY = 4,     /* the name is not 1 to 255 bytes of 21 to 7e hex; the key is empty (but for next) or over 65,535 bytes */
+    CALSTORE_NAME_OR_KEY = 4,     /* the name is not 1 to 255 bytes of 21 to 7e hex; the key is empty (but for next) or over
+                                     65,535 bytes, or has not four bytes in an offset table, whether that is there or not */
     CALSTORE_VALUE_LENGTH = 5,    /* the value is over 65,535 bytes */
     CALSTORE_NO_TABLE = 6,        /* there is no such table */
     CALSTORE_TABLE_EXISTS = 7,    /* create: the table is there already */
@@ -65,8 +69,8 @@ struct calstore_answer calstore_get(const uint8_t *image, size_t image_len, uint
                                     const uint8_t *name, size_t name_len, const uint8_t *key, size_t key_len,
                                     uint8_t *answer, size_t answer_len);
 
-/* The smallest key above the given one in a table, by unsigned bytes, a proper prefix first. The empty key (key_len 0) asks for
- * the first key, so that the keys of a table are gone through by giving back the key before, until CALSTORE_NO_KEY.
+/* The smallest key above the given one in a table, in the table's own order. The empty key (key_len 0) asks for the first key,
+ * in an offset table too, so that the keys of a table are gone through by giving back the key before, until CALSTORE_NO_KEY.
  * Slices, length and refusals are those of get; the key is written at the start of answer. */
 struct calstore_answer calstore_next(const uint8_t *image, size_t image_len, uint8_t *scratch, size_t scratch_len,
                                      const uint8_t *name, size_t name_len, const uint8_t *key, size_t key_len,

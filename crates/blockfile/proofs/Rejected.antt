@@ -13,7 +13,7 @@ use Rattle.blockfile.specs.Order.{Within, within, nameRule, keyRule}
 use Rattle.blockfile.specs.WellFormed.{Piece, Bears, firstBlock, freePieces, tablePieces, Accepted, Rejected}
 use Rattle.blockfile.specs.Calls.{lengthOk}
 use Rattle.blockfile.proofs.Tested.{namesRule, onceRule, superRule, skipRule, towerRule, spanRule, blockRule, freeRule, spanSizeRule, sizeRule, filledRule, reachRule, allowedRule, risingRule, heightRule, otherRule, t-every, t-eq}
-use Rattle.blockfile.proofs.Samples.{superPage, skipPage, towerPage, spanPage, blockPage, freePage, entryBytes, lens}
+use Rattle.blockfile.proofs.Samples.{superPage, skipPage, towerPage, spanPage, blockPage, freePage, entryBytes, least, minusOne, nought, greatest, lens}
 use Rattle.blockfile.proofs.Reading.{Full}
 use Rattle.blockfile.proofs.Bools.{both-and}
 use Rattle.blockfile.proofs.Every.{every-right}
@@ -164,6 +164,26 @@ keyRows =
     ∷ (on 16 16 (word32 1) ∷ on 17 18 (word16 1 ++ entryBytes [] (0x01 ∷ [])) ∷ [], allowedRule ∷ [])
     ∷ []
 
+-- ---- Keys of an offset table: exactly four bytes, rising as numbers (request T-05)
+
+-- the table "b" gets a name of this byte and two entries of these keys
+abbrev withKeys : (name : ℕ) (k l : List ℕ) → List Write
+withKeys n k l = on 3 24 (n ∷ []) ∷ on 16 16 (word32 2) ∷ on 17 18 (word16 2 ++ entryBytes k [] ++ entryBytes l []) ∷ []
+
+abbrev offsetRows : List Row
+offsetRows =
+    -- by bytes, where the numbers fall
+    (withKeys 0x23 nought minusOne, risingRule ∷ [])
+    ∷ (withKeys 0x23 greatest least, risingRule ∷ [])
+    -- the same number twice
+    ∷ (withKeys 0x23 minusOne minusOne, risingRule ∷ [])
+    -- three bytes, five bytes
+    ∷ (withKeys 0x23 (0x80 ∷ 0x00 ∷ 0x00 ∷ []) nought, allowedRule ∷ [])
+    ∷ (withKeys 0x23 least (0x00 ∷ nought), allowedRule ∷ [])
+    -- another table goes by bytes
+    ∷ (withKeys 0x24 minusOne nought, risingRule ∷ [])
+    ∷ []
+
 -- ---- Size, spans and levels are the true numbers of keys, spans and towers
 
 abbrev countRows : List Row
@@ -247,6 +267,13 @@ keptRows =
     ∷ (on 3 29 (entryBytes (replicate 255 0x63) (word32 5)) ∷ [])
     -- byte 7f below byte 80
     ∷ (on 11 24 (0x7f ∷ []) ∷ on 11 30 (0x80 ∷ []) ∷ [])
+    -- an offset table: from the least number to the greatest, from -1 to 0, and where both orders agree
+    ∷ withKeys 0x23 least greatest
+    ∷ withKeys 0x23 minusOne nought
+    ∷ withKeys 0x23 least minusOne
+    -- the same keys in another table, by bytes; there also other lengths
+    ∷ withKeys 0x24 nought minusOne
+    ∷ withKeys 0x24 (0x00 ∷ []) least
     -- with 4 bytes left the lengths stay; with 3 bytes left they move
     ∷ withCont
     ∷ (withCont ++ (on 6 22 (word16 996) ∷ on 8 8 (0x00 ∷ 0x01 ∷ 0x00 ∷ 0x00 ∷ 0x62 ∷ []) ∷ []))
@@ -263,9 +290,9 @@ keptRows =
 
 -- ---- All of them
 
-rejected : Rejections pages (superblockRows ++ metaRows ++ spanRows ++ keyRows ++ countRows ++ towerRows ++ freeRows)
+rejected : Rejections pages (superblockRows ++ metaRows ++ spanRows ++ keyRows ++ offsetRows ++ countRows ++ towerRows ++ freeRows)
 unfolding superMark skipMark towerMark spanMark contMark blockMark freeMark word32 word16 be32 be16 be64 reached lensAt entryEnd nameRule keyRule
-rejected = rejections pages full (superblockRows ++ metaRows ++ spanRows ++ keyRows ++ countRows ++ towerRows ++ freeRows) refl tt
+rejected = rejections pages full (superblockRows ++ metaRows ++ spanRows ++ keyRows ++ offsetRows ++ countRows ++ towerRows ++ freeRows) refl tt
 
 accepted : Every (λ c. Accepted (imageOf pages c)) keptRows
 unfolding superMark skipMark towerMark spanMark contMark blockMark freeMark word32 word16 be32 be16 be64 reached lensAt entryEnd nameRule keyRule

@@ -68,6 +68,19 @@ blockOf n ls = record { page = n; listed = ls }
 abbrev pub small : (key value : ℕ) → Entry
 small k v = record { key = k ∷ []; value = v ∷ [] }
 
+-- keys of four bytes: the least number, -1, 0 and the greatest
+abbrev pub least : List ℕ
+least = 0x80 ∷ 0x00 ∷ 0x00 ∷ 0x00 ∷ []
+
+abbrev pub minusOne : List ℕ
+minusOne = 0xff ∷ 0xff ∷ 0xff ∷ 0xff ∷ []
+
+abbrev pub nought : List ℕ
+nought = 0x00 ∷ 0x00 ∷ 0x00 ∷ 0x00 ∷ []
+
+abbrev pub greatest : List ℕ
+greatest = 0x7f ∷ 0xff ∷ 0xff ∷ 0xff ∷ []
+
 -- "lens"
 abbrev pub lens : List ℕ
 lens = 0x6c ∷ 0x65 ∷ 0x6e ∷ 0x73 ∷ []

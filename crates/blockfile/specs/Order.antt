@@ -26,6 +26,15 @@ bytesBelow [] (y ∷ ys) = true
 bytesBelow (x ∷ xs) [] = false
 bytesBelow (x ∷ xs) (y ∷ ys) = ltb x y || (eqb x y && bytesBelow xs ys)
 
+-- sorted as two's complement numbers from the least up: the negative ones, whose first bit is set, come first, and of two with the same
+-- sign the one that is first by bytes (order: `SortAsNumbers`); no byte at all is below every number
+abbrev pub sign : List ℕ → ℕ
+sign [] = 0
+sign (x ∷ xs) = cond (ltb x 0x80) 2 1
+
+abbrev pub numbersBelow : List ℕ → List ℕ → Bool
+numbersBelow k l = bytesBelow (sign k ∷ k) (sign l ∷ l)
+
 abbrev pub same : List ℕ → List ℕ → Bool
 same [] [] = true
 same [] (y ∷ ys) = false
@@ -41,9 +50,22 @@ pub record KeyRule : Type 0 where
 unfoldable pub nameRule : KeyRule
 nameRule = record { allowed = λ n. within 1 255 (length n) && allWithin 0x21 0x7e n; below = bytesBelow }
 
--- the keys of the table of this name: 1 to 65,535 bytes; the rule is the same for every name
+-- most tables: keys of 1 to 65,535 bytes, sorted by unsigned bytes
+abbrev pub bytesRule : KeyRule
+bytesRule = record { allowed = λ k. within 1 65535 (length k); below = bytesBelow }
+
+-- offset tables: keys of exactly four bytes, sorted as numbers
+abbrev pub numbersRule : KeyRule
+numbersRule = record { allowed = λ k. eqb (length k) 4; below = numbersBelow }
+
+-- offset tables are those whose names begin with "#", 23 hex
+abbrev pub isOffsets : (name : List ℕ) → Bool
+isOffsets [] = false
+isOffsets (x ∷ xs) = eqb x 0x23
+
+-- the keys of the table of this name
 unfoldable pub keyRule : (name : List ℕ) → KeyRule
-keyRule name = record { allowed = λ k. within 1 65535 (length k); below = bytesBelow }
+keyRule name = cond (isOffsets name) numbersRule bytesRule
 
 -- ---- Finite maps: lists with rising keys
 

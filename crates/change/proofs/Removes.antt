@@ -7,27 +7,25 @@ use Rattle.blockfile.specs.declared.Refusal.{Refusal}
 use Rattle.blockfile.specs.declared.Refusal.the-variants.{NoKey}
 use Rattle.blockfile.specs.declared.Wrote.the-variants.{Done, Refused as NotWrote}
 use Rattle.blockfile.specs.Layout.{Table, Layout, entriesOf}
-use Rattle.blockfile.specs.Order.{keyRule, find, there}
+use Rattle.blockfile.specs.Order.{find, there}
 use Rattle.blockfile.specs.Plan.{writesOf}
 use Rattle.blockfile.specs.Remove.{removePlan}
 use Rattle.blockfile.specs.Refusals.{remove, ledgerOf, sought}
 use Rattle.blockfile.specs.Answers.{onTable, outcomeOn}
 use Rattle.blockfile.proofs.Bools.{holds}
+use Rattle.order.specs.declared.sort.Sort.{Sort}
+use Rattle.search.specs.declared.table.TableRef.{TableRef}
 use Rattle.remove.specs.Removes.{RemoveReady, RemoveDone}
 use Rattle.refusals.specs.declared.table.Entered.{Entered}
 use Rattle.refusals.specs.declared.table.Entered.the-variants.{Refused, Found}
 use Rattle.refusals.specs.Table.{OnTable, NamedTable}
 use Rattle.refusals.proofs.Tables.{its-map, rows-left}
 use Rattle.change.specs.Change.{Lending, Changed}
-use Rattle.change.proofs.Named.{named-refused, found, table-at, allowed}
+use Rattle.change.proofs.Named.{KeyJudged, legal-is, named-refused, found, table-at, allowed}
 
--- the key was judged by the rule
-pub record Judged (name key : List ℕ) (legal : Bool) : Type 0 where
-  pub key-is : legal ≡ keyRule name .allowed key
-
-module _ {name key : List ℕ} {legal : Bool} (j : Judged name key legal) where
+module _ {name key : List ℕ} {sort : Sort} {legal : Bool} (j : KeyJudged name key sort legal) where
   abbrev remove-on : OnTable (remove name key) name legal true
-  remove-on = record { more = λ l room. (not (there (sought l (remove name key))), NoKey) ∷ []; are = λ l room. rw (j .key-is) }
+  remove-on = record { more = λ l room. (not (there (sought l (remove name key))), NoKey) ∷ []; are = λ l room. rw (legal-is j) }
 
   module _ {img s : List ℕ} (lent : Lending img s) {r : Entered} (n : NamedTable img name legal true r) where
     pub remove-refused : (f : Refusal) → r ≡ Refused f → Changed (remove name key) img (NotWrote f) img
@@ -40,14 +38,17 @@ module _ {name key : List ℕ} {legal : Bool} (j : Judged name key legal) where
       abbrev t : Table
       t = found lent n page e .1 .table
 
-      pub remove-ready : RemoveReady img s page key
+      abbrev table : TableRef
+      table = record { root = page; sort = sort }
+
+      pub remove-ready : RemoveReady img s table key
       remove-ready =
           record {
             layout = L;
             name = name;
             table = t;
-            is = table-at lent n page e;
-            allowed = holds _ (sym (j .key-is) ∙ allowed lent n page e .0);
+            is = table-at lent n page e (j .sorts);
+            allowed = holds _ (sym (legal-is j) ∙ allowed lent n page e .0);
             lent = lent .long;
           }
 
@@ -55,11 +56,11 @@ module _ {name key : List ℕ} {legal : Bool} (j : Judged name key legal) where
       looked : sought (ledgerOf L) (remove name key) ≡ find key (entriesOf t)
       looked = ap (find key) (its-map L name t (found lent n page e .1 .found))
 
-      module _ (b : Bool) (new : List ℕ) (d : RemoveDone img page key b new) where
+      module _ (b : Bool) (new : List ℕ) (d : RemoveDone img table key b new) where
         pub remove-done : b ≡ true → Changed (remove name key) img Done new
         unfolding outcomeOn onTable
         remove-done q =
-            let f = d .done q L name t (table-at lent n page e) in
+            let f = d .done q L name t (table-at lent n page e (j .sorts)) in
             record {
               layout = L;
               well = lent .well;
@@ -71,5 +72,5 @@ module _ {name key : List ℕ} {legal : Bool} (j : Judged name key legal) where
         pub remove-missing : b ≡ false → Changed (remove name key) img (NotWrote NoKey) new
         unfolding outcomeOn
         remove-missing q =
-            let f = d .missing q L name t (table-at lent n page e) in
+            let f = d .missing q L name t (table-at lent n page e (j .sorts)) in
             record { layout = L; well = lent .well; writes = []; outcome = rw (rows-left remove-on L 0 (found lent n page e .0), looked, f .0); image = f .1 }

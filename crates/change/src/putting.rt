@@ -4,10 +4,12 @@ ghost use Rattle.change.specs.Change.{LendingFree, Changed};
 use blockfile::Refusal;
 use blockfile::Wrote;
 use edit::put::put;
+use order::sort::sort_of;
 use refusals::legal::is_key;
 use refusals::legal::is_value;
 use refusals::table::Entered;
 use refusals::table::named_table;
+use search::table::TableRef;
 
 // Puts the value under the key in the table of the name. `free` is the number of free pages; of the scratch, which is as long as
 // the image, nothing is kept.
@@ -22,10 +24,12 @@ pub fn put_entry(
     requires { ⌜ LendingFree (now image) (now scratch) free ⌝ }
     ensures { λ r. ⌜ Changed (put (now (name .entry)) (now (key .entry)) (now (value .entry))) (now (image .entry)) r (now (image .exit)) ⌝ }
 {
-    match named_table(image, name, is_key(key), is_value(value)) {
+    let sort = sort_of(name);
+    match named_table(image, name, is_key(sort, key), is_value(value)) {
         Entered::Refused(why) => Wrote::Refused(why),
         Entered::Found(page) => {
-            if !put(image, scratch, page, free, key, value) {
+            let table = TableRef { root: page, sort };
+            if !put(image, scratch, table, free, key, value) {
                 return Wrote::Refused(Refusal::NoRoom);
             }
             Wrote::Done

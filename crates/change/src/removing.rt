@@ -3,20 +3,24 @@ ghost use Rattle.blockfile.specs.Refusals.{remove};
 ghost use Rattle.change.specs.Change.{Lending, Changed};
 use blockfile::Refusal;
 use blockfile::Wrote;
+use order::sort::sort_of;
 use refusals::legal::is_key;
 use refusals::table::Entered;
 use refusals::table::named_table;
 use remove::remove::remove;
+use search::table::TableRef;
 
 // Removes the key from the table of the name. Of the scratch, which is as long as the image, nothing is kept.
 pub fn remove_entry(image: &mut [u8], scratch: &mut [u8], name: &[u8], key: &[u8]) -> Wrote
     requires { ⌜ Lending (now image) (now scratch) ⌝ }
     ensures { λ r. ⌜ Changed (remove (now (name .entry)) (now (key .entry))) (now (image .entry)) r (now (image .exit)) ⌝ }
 {
-    match named_table(image, name, is_key(key), true) {
+    let sort = sort_of(name);
+    match named_table(image, name, is_key(sort, key), true) {
         Entered::Refused(why) => Wrote::Refused(why),
         Entered::Found(page) => {
-            if !remove(image, scratch, page, key) {
+            let table = TableRef { root: page, sort };
+            if !remove(image, scratch, table, key) {
                 return Wrote::Refused(Refusal::NoKey);
             }
             Wrote::Done

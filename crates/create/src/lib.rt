@@ -4,7 +4,9 @@ use draw::list::set_number;
 use edit::apply::carry_out;
 use edit::plan::make_plan;
 use edit::shape::count_conts;
+use order::sort::Sort;
 use search::table::METAINDEX;
+use search::table::TableRef;
 use search::table::find_span;
 use stage::change::Change;
 use stage::change::find_spot;
@@ -48,8 +50,12 @@ pub fn create(image: &mut [u8], scratch: &mut [u8], free: usize, name: &[u8]) ->
     requires { ⌜ CreateReady (now image) (now scratch) free (now name) ⌝ }
     ensures { λ r. ⌜ Created (now (image .entry)) free (now (name .entry)) r (now (image .exit)) ⌝ }
 {
-    let page = find_span(image, METAINDEX, name);
-    let spot = find_spot(image, page, name);
+    let names = TableRef {
+        root: METAINDEX,
+        sort: Sort::Bytes,
+    };
+    let page = find_span(image, names, name);
+    let spot = find_spot(image, page, Sort::Bytes, name);
     let change = Change {
         index: spot.index,
         drops: spot.there,

@@ -7,8 +7,8 @@ use mathlib.Core.List.{List}
 use lib.ListN.{length}
 use borrow.Author.Tests.{le-ltb, lt-ltb}
 use Rattle.blockfile.specs.Bytes.{Write, apply}
-use Rattle.blockfile.specs.Layout.{Entry, Span, Table, Layout, columns, freeCount}
-use Rattle.blockfile.specs.Order.{KeyRule, keyRule, insert}
+use Rattle.blockfile.specs.Layout.{Entry, Table, Layout, columns, freeCount}
+use Rattle.blockfile.specs.Order.{keyRule, insert}
 use Rattle.blockfile.specs.WellFormed.{TableOk}
 use Rattle.blockfile.specs.Plan.{lacks, writesOf}
 use Rattle.blockfile.specs.Put.{target, spanAt, parts, wantedBy, rewritePlan, putPlan}
@@ -16,10 +16,10 @@ use Rattle.laws.proofs.Orders.{keys-ordered}
 use Rattle.laws.proofs.Targets.{target-is}
 use Rattle.laws.proofs.TablePut.{put-few}
 use Rattle.laws.proofs.Fitting.{keys-short}
-use Rattle.search.specs.Spans.{SpanOn}
-use Rattle.search.specs.Tables.{Reading, TargetIn}
-use Rattle.search.proofs.Readables.{table-reading}
-use Rattle.search.proofs.Tables.{reading-span, reading-at, reading-rule}
+use Rattle.search.specs.declared.table.TableRef.{TableRef}
+use Rattle.search.specs.Tables.{ReadingBy, TargetIn}
+use Rattle.search.proofs.Readables.{table-by}
+use Rattle.search.proofs.Tables.{said-target}
 use Rattle.stage.specs.declared.change.Change.{Change}
 use Rattle.stage.specs.declared.change.Spot.{Spot}
 use Rattle.stage.specs.Changes.{Spotted, SpottedOn}
@@ -42,10 +42,10 @@ plan-writes L name t i e = ap (writesFor t i (L .free)) e
 abbrev pub putAt : Spot → Change
 putAt s = record { index = s .index; drops = s .there; adds = 1 }
 
-module _ {img : List ℕ} {root : ℕ} {L : Layout} {name : List ℕ} {t : Table} (a : TableAt img root L name t) (k : List ℕ) where
-  abbrev pub reading : Reading img root
-  reading = table-reading img L (a .well) name t (a .found) root (a .at)
+abbrev pub reading : {img : List ℕ} {d : TableRef} {L : Layout} {name : List ℕ} {t : Table} → TableAt img d L name t → ReadingBy img d
+reading {img} {d} {L} {name} {t} a = table-by img L (a .well) name t (a .found) d (a .at) (a .sorts)
 
+module _ {img : List ℕ} {d : TableRef} {L : Layout} {name : List ℕ} {t : Table} (a : TableAt img d L name t) (k : List ℕ) where
   abbrev pub place : ℕ
   place = target (keyRule name) k t
 
@@ -55,50 +55,43 @@ module _ {img : List ℕ} {root : ℕ} {L : Layout} {name : List ℕ} {t : Table
   pub inside : place < length (columns t)
   inside = target-is (keyRule name) (keys-ordered name) k t ok .place
 
-  module _ (page : ℕ) (f : TargetIn img root k page) where
-    pub target-span : SpanOn img page
-    target-span = reading-span reading place inside page (f .is reading)
+  module _ (page : ℕ) (f : TargetIn img d k page) (s : Spot) (g : SpottedOn img page (d .sort) k s) where
+    pub spotted : Spotted (keyRule name) k (spanAt t place .entries) s
+    spotted = said-target (reading a) k page f (λ r es. Spotted r k es s) (g .is)
 
-    module _ (s : Spot) (g : SpottedOn img page k s) where
-      pub spotted : Spotted (keyRule name) k (spanAt t place .entries) s
-      unfolding target-span
-      spotted =
-          subst (λ (r : KeyRule). Spotted r k (spanAt t place .entries) s) (reading-rule reading place inside page (f .is reading))
-          (subst (λ (es : List Entry). Spotted (target-span .rule) k es s) (ap (λ (u : Span). u .entries) (reading-at reading place inside page (f .is reading))) (g .is target-span))
+    -- the entries after the change are those with the key's value
+    inserted : (v : List ℕ) → changed t place (putAt s) k v ≡ insert (keyRule name) k v (spanAt t place .entries)
+    inserted v = sym (spotted .put v)
 
-      -- the entries after the change are those with the key's value
-      inserted : (v : List ℕ) → changed t place (putAt s) k v ≡ insert (keyRule name) k v (spanAt t place .entries)
-      inserted v = sym (spotted .put v)
-
-      pub rewrite-of : (v : List ℕ) → RewriteOf img root page (putAt s) k v (keyRule name) t (L .free) place
-      rewrite-of v =
-          record {
-            standing = table-standing img L (a .well) name t (a .found);
-            at = sym (a .at);
-            change = record {
-              inside = inside;
-              at = f .is reading;
-              fits = record { drops = spotted .bit; adds = omega arith; inside = spotted .inside; few = spotted .few };
-            };
-            few = subst (λ (es : List Entry). length es ≤ t .spanSize + 1) (sym (inserted v)) (put-few (keyRule name) (keys-ordered name) t ok k v);
-          }
+    pub rewrite-of : (v : List ℕ) → RewriteOf img (d .root) page (putAt s) k v (keyRule name) t (L .free) place
+    rewrite-of v =
+        record {
+          standing = table-standing img L (a .well) name t (a .found);
+          at = sym (a .at);
+          change = record {
+            inside = inside;
+            at = f .is (reading a);
+            fits = record { drops = spotted .bit; adds = omega arith; inside = spotted .inside; few = spotted .few };
+          };
+          few = subst (λ (es : List Entry). length es ≤ t .spanSize + 1) (sym (inserted v)) (put-few (keyRule name) (keys-ordered name) t ok k v);
+        }
 
 -- ---- The plan
 
-module _ {img scratch : List ℕ} {root free : ℕ} {k v : List ℕ} (h : PutReady img scratch root free k v) (page : ℕ) (f : TargetIn img root k page)
-    (s : Spot) (g : SpottedOn img page k s) where
-  abbrev pub change-of : RewriteOf img root page (putAt s) k v (keyRule (h .name)) (h .table) (h .layout .free) (place (h .is) k)
+module _ {img scratch : List ℕ} {d : TableRef} {free : ℕ} {k v : List ℕ} (h : PutReady img scratch d free k v) (page : ℕ) (f : TargetIn img d k page)
+    (s : Spot) (g : SpottedOn img page (d .sort) k s) where
+  abbrev pub change-of : RewriteOf img (d .root) page (putAt s) k v (keyRule (h .name)) (h .table) (h .layout .free) (place (h .is) k)
   change-of = rewrite-of (h .is) k page f s g v
 
-  pub put-planned : PlanReady img root page (putAt s) (length k + length v)
+  pub put-planned : PlanReady img (d .root) page (putAt s) (length k + length v)
   put-planned = plan-ready change-of (omega (arith, keys-short (h .name) k (h .allowed), h .short))
 
 -- ---- The answers
 
-module _ {img : List ℕ} {root free : ℕ} {k : List ℕ} (v : List ℕ) (page : ℕ) (f : TargetIn img root k page) (s : Spot) (g : SpottedOn img page k s)
-    {x : Plan} (q : PlanFor img root page (putAt s) (length k + length v) 0 (length img / 1024) x) (n : ℕ) (m : ContsCounted img page n) where
-  module _ {L : Layout} {name : List ℕ} {t : Table} (a : TableAt img root L name t) (h : freeCount (L .free) ≡ free) where
-    abbrev o : RewriteOf img root page (putAt s) k v (keyRule name) t (L .free) (place a k)
+module _ {img : List ℕ} {d : TableRef} {free : ℕ} {k : List ℕ} (v : List ℕ) (page : ℕ) (f : TargetIn img d k page) (s : Spot) (g : SpottedOn img page (d .sort) k s)
+    {x : Plan} (q : PlanFor img (d .root) page (putAt s) (length k + length v) 0 (length img / 1024) x) (n : ℕ) (m : ContsCounted img page n) where
+  module _ {L : Layout} {name : List ℕ} {t : Table} (a : TableAt img d L name t) (h : freeCount (L .free) ≡ free) where
+    abbrev o : RewriteOf img (d .root) page (putAt s) k v (keyRule name) t (L .free) (place a k)
     o = rewrite-of a k page f s g v
 
     -- the entries after the change are the text's
@@ -119,13 +112,13 @@ module _ {img : List ℕ} {root free : ℕ} {k : List ℕ} (v : List ℕ) (page 
 
       image-is : {out : List ℕ} → Carried img x (putAt s) k v out → out ≡ apply (writesOf L (putPlan L name t k v)) img
       unfolding putPlan
-      image-is d = written o q has-room d ∙ ap (λ (ws : List Write). apply ws img) (plan-writes L name t (place a k) (inserted a k page f s g v))
+      image-is w = written o q has-room w ∙ ap (λ (ws : List Write). apply ws img) (plan-writes L name t (place a k) (inserted a k page f s g v))
 
-  pub put-full : n + free < wantedOf x → PutDone img root free k v false img
+  pub put-full : n + free < wantedOf x → PutDone img d free k v false img
   put-full l = record { done = λ e. absurd (true≢false (sym e)); refused = λ e L name t a h. (lacking a h l, refl) }
 
   module _ (l : wantedOf x ≤ n + free) where
-    pub put-carries : {b : List ℕ} → PutReady img b root free k v → CarryReady img b x (putAt s) k v
+    pub put-carries : {b : List ℕ} → PutReady img b d free k v → CarryReady img b x (putAt s) k v
     put-carries h =
         record {
           rule = keyRule (h .name);
@@ -136,5 +129,5 @@ module _ {img : List ℕ} {root free : ℕ} {k : List ℕ} (v : List ℕ) (page 
           lent = h .lent;
         }
 
-    pub put-done : {out : List ℕ} → Carried img x (putAt s) k v out → PutDone img root free k v true out
-    put-done d = record { done = λ e L name t a h. (enough a h l, image-is a h l d); refused = λ e. absurd (true≢false e) }
+    pub put-done : {out : List ℕ} → Carried img x (putAt s) k v out → PutDone img d free k v true out
+    put-done w = record { done = λ e L name t a h. (enough a h l, image-is a h l w); refused = λ e. absurd (true≢false e) }

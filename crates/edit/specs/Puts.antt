@@ -12,26 +12,29 @@ use Rattle.blockfile.specs.Order.{keyRule, find}
 use Rattle.blockfile.specs.WellFormed.{WellFormed}
 use Rattle.blockfile.specs.Plan.{lacks, writesOf}
 use Rattle.blockfile.specs.Put.{putPlan}
+use Rattle.order.specs.Sorts.{sortOf}
+use Rattle.search.specs.declared.table.TableRef.{TableRef}
 
--- the image has this layout, and the table of this name has this skip-list page
-pub record TableAt (img : List ℕ) (root : ℕ) (L : Layout) (name : List ℕ) (t : Table) : Type 0 where
+-- the image has this layout, and the table of this name is the one that is meant
+pub record TableAt (img : List ℕ) (d : TableRef) (L : Layout) (name : List ℕ) (t : Table) : Type 0 where
   pub well : WellFormed img L
   pub found : find name (L .tables) ≡ some t
-  pub at : t .root ≡ root
+  pub at : t .root ≡ d .root
+  pub sorts : d .sort ≡ sortOf name
 
-pub record PutReady (img scratch : List ℕ) (root free : ℕ) (k v : List ℕ) : Type 0 where
+pub record PutReady (img scratch : List ℕ) (d : TableRef) (free : ℕ) (k v : List ℕ) : Type 0 where
   pub layout : Layout
   pub name : List ℕ
   pub table : Table
-  pub is : TableAt img root layout name table
+  pub is : TableAt img d layout name table
   pub pages : freeCount (layout .free) ≡ free
   pub allowed : T (keyRule name .allowed k)
   pub short : length v ≤ 65535
   pub lent : length scratch ≡ length img
 
 -- r says whether there was room; the image after is the text's, or as it was
-pub record PutDone (img : List ℕ) (root free : ℕ) (k v : List ℕ) (r : Bool) (out : List ℕ) : Type 0 where
-  pub done : r ≡ true → (L : Layout) (name : List ℕ) (t : Table) → TableAt img root L name t → freeCount (L .free) ≡ free
+pub record PutDone (img : List ℕ) (d : TableRef) (free : ℕ) (k v : List ℕ) (r : Bool) (out : List ℕ) : Type 0 where
+  pub done : r ≡ true → (L : Layout) (name : List ℕ) (t : Table) → TableAt img d L name t → freeCount (L .free) ≡ free
       → (lacks L (putPlan L name t k v) ≡ false) × (out ≡ apply (writesOf L (putPlan L name t k v)) img)
-  pub refused : r ≡ false → (L : Layout) (name : List ℕ) (t : Table) → TableAt img root L name t → freeCount (L .free) ≡ free
+  pub refused : r ≡ false → (L : Layout) (name : List ℕ) (t : Table) → TableAt img d L name t → freeCount (L .free) ≡ free
       → (lacks L (putPlan L name t k v) ≡ true) × (out ≡ img)

@@ -3,32 +3,42 @@ ghost use Rattle.edit.specs.Puts.{PutReady, PutDone};
 use crate::apply::carry_out;
 use crate::plan::make_plan;
 use crate::shape::count_conts;
+use search::table::TableRef;
 use search::table::find_span;
 use stage::change::Change;
 use stage::change::find_spot;
 
-// Puts the value under the key in the table with the skip-list page `root`; `free` pages are free. Answers whether there was room;
-// else nothing changes. The scratch is as long as the image.
+// Puts the value under the key in the table; `free` pages are free. Answers whether there was room; else nothing changes. The scratch
+// is as long as the image.
 pub fn put(
     image: &mut [u8],
     scratch: &mut [u8],
-    root: usize,
+    table: TableRef,
     free: usize,
     key: &[u8],
     value: &[u8],
 ) -> bool
-    requires { ⌜ PutReady (now image) (now scratch) root free (now key) (now value) ⌝ }
-    ensures { λ r. ⌜ PutDone (now (image .entry)) root free (now (key .entry)) (now (value .entry)) r (now (image .exit)) ⌝ }
+    requires { ⌜ PutReady (now image) (now scratch) table free (now key) (now value) ⌝ }
+    ensures { λ r. ⌜ PutDone (now (image .entry)) table free (now (key .entry)) (now (value .entry)) r (now (image .exit)) ⌝ }
 {
-    let page = find_span(image, root, key);
-    let spot = find_spot(image, page, key);
+    let page = find_span(image, table, key);
+    let sort = table.sort;
+    let spot = find_spot(image, page, sort, key);
     let change = Change {
         index: spot.index,
         drops: spot.there,
         adds: 1,
     };
     let base = image.len() / 1024;
-    let plan = make_plan(image, root, page, change, key.len() + value.len(), 0, base);
+    let plan = make_plan(
+        image,
+        table.root,
+        page,
+        change,
+        key.len() + value.len(),
+        0,
+        base,
+    );
     let old = count_conts(image, page, plan.links.size);
     if old + free < plan.wants.conts + plan.wants.span + plan.wants.tower {
         return false;

@@ -22,10 +22,11 @@ pub enough-less : {img : List ℕ} {at : Place} (n : ℕ) {m : ℕ} → n ≤ m 
 enough-less n h e = record { bytes = e .bytes; rest = e .rest; long = omega (arith, e .long) }
 
 pub number-done : {img : List ℕ} {at : Place} {a b c d : Got} → Stepped img at a → Stepped img (a .after) b → Stepped img (b .after) c → Stepped img (c .after) d
-    → {w x y z : ℕ} → w ≡ a .byte → x ≡ b .byte → y ≡ c .byte → z ≡ d .byte → Numbered img at ((w * 256 + x) * 65536 + (y * 256 + z))
+    → {w x y z : ℕ} → w ≡ a .byte → x ≡ b .byte → y ≡ c .byte → z ≡ d .byte → (w * 256 + x) * 65536 + (y * 256 + z) < 4294967296 → Numbered img at ((w * 256 + x) * 65536 + (y * 256 + z))
 unfolding be32 be16
-number-done {img} {at} {a} {b} {c} {d} t u v q {w} {x} {y} {z} e f g h =
+number-done {img} {at} {a} {b} {c} {d} t u v q {w} {x} {y} {z} e f g h low =
     record {
+      below = low;
       is = λ s r.
           let r1 : Rest img (a .after) (drop 1 s) = t .moved .to s r in
           let r2 : Rest img (b .after) (drop 1 (drop 1 s)) = u .moved .to (drop 1 s) r1 in

@@ -3,6 +3,7 @@ pub mod Octets
 pub mod Places
 pub mod Names
 pub mod Prefixes
+pub mod Sorts
 pub mod Keys
 pub mod Parts
 pub mod Copies

@@ -1,19 +1,22 @@
--- The prefix of a key. It is read off the page, and what stands behind the key is cut off.
+-- The rank of a key. Its prefix is read off the page, and what stands behind the key is cut off.
 use Prim.Native.Nat.{ℕ, _+_, _*_, _-_, _/_, _%_, _^_, _≤_, _<_}
 use native.Mathlib.Omega.{arith}
+use native.Mathlib.Decide.{decLt}
 use native.Mathlib.Nat.{div-mul-le-self, lt-of-le-of-lt, mod-eq-of-lt}
 use mathlib.Core.Path.{_≡_, ap, sym, _∙_, subst}
-use mathlib.Core.List.{List}
+use mathlib.Core.Logic.{by-cases}
+use mathlib.Core.List.{List, []}
 use lib.ListN.{take, drop, getD}
 use Rattle.blockfile.specs.Bytes.{be64, Every}
 use Rattle.pages.specs.Begins.{lead}
 use Rattle.pages.proofs.Words.{Byte, bytes-take, lead-below, lead-take, lead-cut, be64-lead}
-use Rattle.order.specs.declared.bytes.Order.the-variants.{Less}
-use Rattle.order.specs.Bytes.{order}
-use Rattle.order.proofs.Orders.{lead-order}
+use Rattle.order.specs.declared.sort.Sort.{Sort}
+use Rattle.order.specs.Sorts.{turn, rank}
+use Rattle.order.proofs.Numbers.{rank-bound}
 use Rattle.entries.specs.declared.place.Place.{Place}
 use Rattle.entries.specs.Places.{Rest}
-use Rattle.entries.specs.Keys.{KeyAt, Prefixed, PrefixMost}
+use Rattle.entries.specs.Keys.{KeyAt, Prefixed}
+use Rattle.entries.specs.Sorted.{Ranked, RankMost}
 use Rattle.entries.proofs.Rests.{rest-take}
 use Rattle.entries.proofs.Octets.{bytes-rest}
 
@@ -43,17 +46,23 @@ module _ {img : List ℕ} (bytes : (i : ℕ) → getD img i 0 < 256) {at : Place
             rw (whole s (q .rest some), q .is) (mod-eq-of-lt (lt-of-le-of-lt (div-mul-le-self (lead 8 s) P) (lead-below 8 s low)) ∙ sym is);
       }
 
--- ---- the prefix of a key against a number
+-- ---- the rank of a key
 
-module _ {img : List ℕ} (bytes : (i : ℕ) → getD img i 0 < 256) {at : Place} {n : ℕ} (some : 0 < n) where
-  key-bytes-are : (k : List ℕ) → KeyAt img at n k → Every Byte k
-  key-bytes-are k a = subst (Every Byte) (sym (a .is)) (bytes-take n (a .bytes) (bytes-rest img bytes at (a .bytes) (a .rest some)))
+module _ {s : Sort} {img : List ℕ} {at : Place} {n : ℕ} where
+  pub rank-is : {p t r : ℕ} → Prefixed img at n p → t ≡ turn s → r ≡ (p + t) % 2 ^ 64 → Ranked s img at n r
+  unfolding rank
+  rank-is e f g = record { is = λ k a. rw (← e .is k a, ← f) g }
 
-  pub prefix-above : {p : ℕ} → Prefixed img at n p → (low k : List ℕ) → KeyAt img at n k → lead 8 low < p → order low k ≡ Less
-  prefix-above e low k a h = lead-order 8 low k (key-bytes-are k a) (omega (arith, e .is k a))
+  pub rank-itself : {p : ℕ} → Ranked s img at n p → RankMost s img at n p
+  rank-itself e = record { most = λ k a. omega (arith, e .is k a) }
 
-  pub prefix-all : PrefixMost img at n 18446744073709551615
-  prefix-all = record { most = λ k a. omega (arith, lead-below 8 k (key-bytes-are k a)) }
+  pub rank-all : RankMost s img at n 18446744073709551615
+  rank-all = record { most = λ k a. rank-bound s k }
 
-pub prefix-itself : {img : List ℕ} {at : Place} {n p : ℕ} → Prefixed img at n p → PrefixMost img at n p
-prefix-itself e = record { most = λ k a. omega (arith, e .is k a) }
+-- ---- the bytes of a key
+
+module _ {img : List ℕ} (bytes : (i : ℕ) → getD img i 0 < 256) {at : Place} {n : ℕ} where
+  pub key-bytes-are : (k : List ℕ) → KeyAt img at n k → Every Byte k
+  key-bytes-are k a =
+      by-cases (decLt 0 n) (λ some. subst (Every Byte) (sym (a .is)) (bytes-take n (a .bytes) (bytes-rest img bytes at (a .bytes) (a .rest some))))
+      (λ none. let e : n ≡ 0 = omega (arith, none) in subst (Every Byte) {x = []} (sym (a .is ∙ ap (λ (m : ℕ). take m (a .bytes)) e)) tt)

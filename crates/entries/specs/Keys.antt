@@ -52,7 +52,3 @@ pub record OnPage (at : Place) (n : ℕ) (r : Bool) : Type 0 where
 -- p is the prefix of the key: its first eight bytes as a number
 pub record Prefixed (img : List ℕ) (at : Place) (n p : ℕ) : Type 0 where
   pub is : (k : List ℕ) → KeyAt img at n k → p ≡ lead 8 k
-
--- p is not below the prefix of the key
-pub record PrefixMost (img : List ℕ) (at : Place) (n p : ℕ) : Type 0 where
-  pub most : (k : List ℕ) → KeyAt img at n k → lead 8 k ≤ p

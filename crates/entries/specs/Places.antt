@@ -79,6 +79,7 @@ pub record Measured (img : List ℕ) (at : Place) (g : Sizes) : Type 0 where
 -- the four bytes at the place as a number
 pub record Numbered (img : List ℕ) (at : Place) (r : ℕ) : Type 0 where
   pub is : (s : List ℕ) → Rest img at s → r ≡ be32 s 0
+  pub below : r < 4294967296
 
 -- the n bytes from the place on are copied over the start of a buffer; its other bytes are kept
 pub record Copied (img : List ℕ) (at : Place) (n : ℕ) (old new : List ℕ) : Type 0 where

@@ -2,4 +2,5 @@
 pub mod copy;
 pub mod key;
 pub mod place;
-pub mod prefix;
+pub mod rank;
+pub mod sorted;

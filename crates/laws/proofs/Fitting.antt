@@ -6,7 +6,7 @@ use mathlib.Core.Bool.{Bool, true, false, cond}
 use mathlib.Core.Option.{Option, none, some}
 use mathlib.Core.List.{List, [], _∷_, _++_, map}
 use lib.ListN.{length, length-append, length-map}
-use lib.Dec.{T, lit<, ltb}
+use lib.Dec.{T, lit<, ltb, eqb→eq}
 use Rattle.blockfile.specs.Bytes.{write, Every, gather, from, firstOf}
 use Rattle.blockfile.specs.Layout.{Entry, Span, Tower, Column, Table, Block, columns, spansOf, towersOf, towerIn, entriesOf, reached}
 use Rattle.blockfile.specs.Order.{KeyRule, nameRule, keyRule, Within, within, allWithin}
@@ -16,6 +16,7 @@ use Rattle.blockfile.specs.Encode.{counts}
 use Rattle.blockfile.specs.Put.{countsOn}
 use Rattle.blockfile.proofs.Bools.{and-both, within-is}
 use Rattle.blockfile.proofs.Every.{every-left, every-right, every-so}
+use Rattle.laws.proofs.Orders.{by-rule}
 use Rattle.laws.proofs.State.{Shows}
 use Rattle.laws.proofs.Opens.{held}
 use Rattle.laws.proofs.Edits.{counts-written}
@@ -33,8 +34,7 @@ Short r = (k : List ℕ) → T (r .allowed k) → length k ≤ 65535
 
 -- those of a table are
 pub keys-short : (name : List ℕ) → Short (keyRule name)
-unfolding keyRule
-keys-short name k h = within-is 1 65535 (length k) h .1
+keys-short name = by-rule Short (λ k h. let e : length k ≡ 4 = eqb→eq (length k) 4 h in omega arith) (λ k h. within-is 1 65535 (length k) h .1) name
 
 -- and so are names
 pub names-short : Short nameRule

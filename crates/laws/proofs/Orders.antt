@@ -2,11 +2,11 @@
 use Prim.Native.Nat.{ℕ, _<_}
 use native.Mathlib.Omega.{arith}
 use mathlib.Core.Path.{_≡_, refl, sym, subst}
-use mathlib.Core.Bool.{Bool, true, false, _&&_, _||_}
+use mathlib.Core.Bool.{Bool, true, false, cond, _&&_, _||_}
 use mathlib.Core.List.{List, [], _∷_}
 use lib.Dec.{T, ltb, eqb, ltb→lt, lt→ltb, eqb→eq, eqb-refl}
 use borrow.Author.Tests.{ltb-false}
-use Rattle.blockfile.specs.Order.{KeyRule, bytesBelow, same, nameRule, keyRule}
+use Rattle.blockfile.specs.Order.{KeyRule, bytesBelow, sign, numbersBelow, same, nameRule, bytesRule, numbersRule, isOffsets, keyRule}
 use Rattle.blockfile.proofs.Bools.{holds, and-both, both-and}
 
 -- a strict total order
@@ -79,6 +79,29 @@ pub names-ordered : Ordered nameRule
 unfolding nameRule
 names-ordered = record { irrefl = bytes-irrefl; trans = bytes-trans; total = bytes-total }
 
-pub keys-ordered : (name : List ℕ) → Ordered (keyRule name)
+pub bytes-ordered : Ordered bytesRule
+bytes-ordered = record { irrefl = bytes-irrefl; trans = bytes-trans; total = bytes-total }
+
+-- ---- As numbers: by bytes, with the sign first
+
+pub numbers-ordered : Ordered numbersRule
+numbers-ordered =
+    record {
+      irrefl = λ k. bytes-irrefl (sign k ∷ k);
+      trans = λ a b c. bytes-trans (sign a ∷ a) (sign b ∷ b) (sign c ∷ c);
+      total = λ a b s n. bytes-total (sign a ∷ a) (sign b ∷ b) (λ t. s (and-both (eqb (sign a) (sign b)) (same a b) t .1)) n;
+    }
+
+-- ---- The keys of a table
+
+-- what holds for both rules holds for the keys of every table
+pub by-rule : (P : KeyRule → Type 0) → P numbersRule → P bytesRule → (name : List ℕ) → P (keyRule name)
 unfolding keyRule
-keys-ordered name = record { irrefl = bytes-irrefl; trans = bytes-trans; total = bytes-total }
+by-rule P n b name = go (isOffsets name)
+  where
+    go : (c : Bool) → P (cond c numbersRule bytesRule)
+    go true = n
+    go false = b
+
+pub keys-ordered : (name : List ℕ) → Ordered (keyRule name)
+keys-ordered = by-rule Ordered numbers-ordered bytes-ordered

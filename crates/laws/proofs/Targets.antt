@@ -18,7 +18,7 @@ use Rattle.blockfile.specs.WellFormed.{TableOk}
 use Rattle.blockfile.specs.Put.{begins, lastPlace, target, spanAt}
 use Rattle.blockfile.proofs.Bools.{holds}
 use Rattle.blockfile.proofs.Every.{every-so}
-use Rattle.laws.proofs.Orders.{Ordered}
+use Rattle.laws.proofs.Orders.{Ordered, by-rule}
 use Rattle.laws.proofs.Middle.{AllUnder, AllOver, firstKey, orThen, rising-left, rising-right, rising-before, under-reach, find-middle, insert-middle, erase-middle, above-middle}
 use Rattle.laws.proofs.Places.{gather-append, drop-behind, take-map, drop-map, every-drop, entriesIn, entriesBefore, entriesAfter, place-entries}
 
@@ -206,6 +206,5 @@ module _ (r : KeyRule) (o : Ordered r) (k : List ℕ) (t : Table) (i : ℕ) (at 
 
 -- a key that a table may hold is not empty
 pub key-some : (name k : List ℕ) → T (keyRule name .allowed k) → same k [] ≡ false
-unfolding keyRule
-key-some name [] h = absurd h
+key-some name [] h = absurd (by-rule (λ r. T (r .allowed []) → ⊥) (λ t. t) (λ t. t) name h)
 key-some name (x ∷ k) h = refl

@@ -1,10 +1,13 @@
--- Strings compared eight bytes at a time, computed: a word decides, a byte left over, a byte of a word before the next, a length.
+-- Strings compared eight bytes at a time, computed: a word decides, a byte left over, a byte of a word before the next, a length. And the
+-- numbers that four bytes stand for.
 use Prim.Native.Nat.{ℕ}
 use mathlib.Core.Path.{_≡_, refl}
 use mathlib.Core.Bool.{Bool, true, false}
 use mathlib.Core.List.{List, [], _∷_, _++_}
 use Rattle.blockfile.specs.Bytes.{be64, be32, be16}
+use lib.IntN.{pos, negsuc}
 use Rattle.order.specs.Words.{wordsBelow, wordsSame, words}
+use Rattle.order.specs.Sorts.{numberOf}
 
 abbrev below : (k l : List ℕ) → Bool
 below k l = wordsBelow (words k l) k l
@@ -33,3 +36,9 @@ prefixes = (refl, refl, refl)
 itself : (below (word 7 ++ 1 ∷ []) (word 7 ++ 1 ∷ []) ≡ false) × (equal (word 7 ++ 1 ∷ []) (word 7 ++ 1 ∷ []) ≡ true)
 unfolding be64 be32 be16
 itself = (refl, refl)
+
+-- -2147483648, -1, 0 and 2147483647
+numbers : (numberOf (0x80 ∷ 0 ∷ 0 ∷ 0 ∷ []) ≡ negsuc 2147483647) × (numberOf (0xff ∷ 0xff ∷ 0xff ∷ 0xff ∷ []) ≡ negsuc 0)
+    × (numberOf (0 ∷ 0 ∷ 0 ∷ 0 ∷ []) ≡ pos 0) × (numberOf (0x7f ∷ 0xff ∷ 0xff ∷ 0xff ∷ []) ≡ pos 2147483647)
+unfolding be32 be16
+numbers = (refl, refl, refl, refl)

@@ -20,7 +20,7 @@ use Rattle.order.specs.Bytes.{order, wordOrder}
 use Rattle.order.proofs.Leads.{lead-less, lead-on}
 use Rattle.order.proofs.Words.{below-only, words-as-bytes}
 
--- ---- Less exactly where the text has the one key below the other, Equal exactly where they are the same
+-- ---- Less exactly where the text has the one key below the other
 
 pub less-below : (k l : List ℕ) → order k l ≡ Less → T (bytesBelow k l)
 unfolding order
@@ -38,15 +38,6 @@ below-less k l h = let b = so (bytesBelow k l) h in rw (below-only k l b .1, b)
 below-greater : (k l : List ℕ) → T (bytesBelow l k) → order k l ≡ Greater
 unfolding order
 below-greater k l h = let b = below-only l k (so (bytesBelow l k) h) in rw (b .2, b .0)
-
-pub equal-same : (k l : List ℕ) → order k l ≡ Equal → T (same k l)
-unfolding order
-equal-same k l e = go (same k l) (bytesBelow k l) e
-  where
-    go : (s b : Bool) → cond s Equal (cond b Less Greater) ≡ Equal → T s
-    go true b e = tt
-    go false true e = absurd (let z : _≡_ {A = ℕ} 0 1 = cc in omega arith)
-    go false false e = absurd (let z : _≡_ {A = ℕ} 0 1 = cc in omega arith)
 
 -- ---- by words, and by the numbers of the first bytes
 

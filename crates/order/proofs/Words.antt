@@ -11,28 +11,20 @@ use lib.ListN.{length, drop, length-drop}
 use lib.Dec.{T, ltb}
 use borrow.Author.Tests.{lt-ltb, le-ltb, eq-eqb, ne-eqb, ltb-true, ltb-false}
 use Rattle.blockfile.specs.Bytes.{be64, Every}
-use Rattle.blockfile.specs.Order.{bytesBelow, same, keyRule}
+use Rattle.blockfile.specs.Order.{bytesBelow, same}
 use Rattle.blockfile.proofs.Bools.{holds, not-so, same-eq}
-use Rattle.laws.proofs.Orders.{keys-ordered}
+use Rattle.laws.proofs.Orders.{bytes-ordered}
 use Rattle.pages.proofs.Words.{Byte, bytes-drop, be64-lead}
 use Rattle.order.specs.Words.{wordsBelow, wordsSame, shorter, words, WordsAsBytes}
 use Rattle.order.proofs.Leads.{lead-less, lead-on}
-
-irrefl : (k : List ℕ) → T (bytesBelow k k) → ⊥
-unfolding keyRule
-irrefl = keys-ordered [] .irrefl
-
-trans : (a b c : List ℕ) → T (bytesBelow a b) → T (bytesBelow b c) → T (bytesBelow a c)
-unfolding keyRule
-trans = keys-ordered [] .trans
 
 -- of two strings of which one is below the other, the other is not below it, and they are not the same
 pub below-only : (k l : List ℕ) → bytesBelow k l ≡ true → (bytesBelow l k ≡ false) × (same k l ≡ false) × (same l k ≡ false)
 below-only k l e =
     let h : T (bytesBelow k l) = holds (bytesBelow k l) e in (
-      not-so (bytesBelow l k) (λ t. irrefl k (trans k l k h t)),
-      not-so (same k l) (λ t. irrefl k (subst (λ (x : List ℕ). T (bytesBelow k x)) (sym (same-eq k l t)) h)),
-      not-so (same l k) (λ t. irrefl k (subst (λ (x : List ℕ). T (bytesBelow k x)) (same-eq l k t) h)),
+      not-so (bytesBelow l k) (λ t. bytes-ordered .irrefl k (bytes-ordered .trans k l k h t)),
+      not-so (same k l) (λ t. bytes-ordered .irrefl k (subst (λ (x : List ℕ). T (bytesBelow k x)) (sym (same-eq k l t)) h)),
+      not-so (same l k) (λ t. bytes-ordered .irrefl k (subst (λ (x : List ℕ). T (bytesBelow k x)) (same-eq l k t) h)),
     )
 
 -- ---- the first words of two strings

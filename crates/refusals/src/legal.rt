@@ -1,12 +1,14 @@
 // Which names, keys and values are allowed: the tests of the refusals 4 and 5.
 ghost use mathlib.Core.Path.{_≡_};
 ghost use mathlib.Core.Bool.{not, _||_};
-ghost use mathlib.Core.List.{List, []};
-ghost use Prim.Native.Nat.{ℕ};
+ghost use mathlib.Core.List.{[]};
 ghost use lib.ListN.{length};
 ghost use lib.Dec.{ltb};
-ghost use Rattle.blockfile.specs.Order.{within, nameRule, keyRule, same};
+ghost use Rattle.blockfile.specs.Order.{within, nameRule, same};
+ghost use Rattle.order.specs.Sorts.{ruleAs};
 use entries::key::printable_bytes;
+use order::sort::Sort;
+use order::sort::lengths_of;
 
 // Whether n is one of lo to hi, both included.
 pub fn is_within(lo: usize, hi: usize, n: usize) -> bool
@@ -28,21 +30,22 @@ pub fn is_name(name: &[u8]) -> bool
     printable_bytes(name)
 }
 
-// Whether the bytes are a key of a table; the rule is the same for every name.
-pub fn is_key(key: &[u8]) -> bool
-    ensures { λ r. ⌜ ((name : List ℕ) → r ≡ keyRule name .allowed (now (key .entry))) ⌝ }
+// Whether the bytes are a key of a table whose keys sort so.
+pub fn is_key(sort: Sort, key: &[u8]) -> bool
+    ensures { λ r. ⌜ r ≡ ruleAs sort .allowed (now (key .entry)) ⌝ }
 {
-    is_within(1, 65535, key.len())
+    let lengths = lengths_of(sort);
+    is_within(lengths.least, lengths.most, key.len())
 }
 
 // Whether next can be asked: behind a key, or with no bytes for the first.
-pub fn is_key_or_empty(key: &[u8]) -> bool
-    ensures { λ r. ⌜ ((name : List ℕ) → r ≡ (same (now (key .entry)) [] || keyRule name .allowed (now (key .entry)))) ⌝ }
+pub fn is_key_or_empty(sort: Sort, key: &[u8]) -> bool
+    ensures { λ r. ⌜ r ≡ (same (now (key .entry)) [] || ruleAs sort .allowed (now (key .entry))) ⌝ }
 {
     if key.len() == 0 {
         return true;
     }
-    is_key(key)
+    is_key(sort, key)
 }
 
 // Whether the bytes can be a value.

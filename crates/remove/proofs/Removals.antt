@@ -17,6 +17,7 @@ use Rattle.laws.proofs.Orders.{keys-ordered}
 use Rattle.laws.proofs.Targets.{target-is, find-at}
 use Rattle.laws.proofs.TableRemove.{left-fits}
 use Rattle.laws.proofs.Room.{left-wants}
+use Rattle.search.specs.declared.table.TableRef.{TableRef}
 use Rattle.search.specs.Tables.{TargetIn}
 use Rattle.stage.specs.declared.change.Spot.{Spot}
 use Rattle.stage.specs.Changes.{spliced, Fits, Spotted, SpottedOn}
@@ -44,7 +45,7 @@ leave-rewrites L name t (suc i) [] (inl e) = absurd (omega arith)
 leave-rewrites L name t (suc i) [] (inr n) = absurd (n refl)
 leave-rewrites L name t (suc i) (x ∷ es) h = refl
 
-module _ {img : List ℕ} {root : ℕ} {L : Layout} {name : List ℕ} {t : Table} (a : TableAt img root L name t) (k : List ℕ) (page : ℕ) (f : TargetIn img root k page) where
+module _ {img : List ℕ} {d : TableRef} {L : Layout} {name : List ℕ} {t : Table} (a : TableAt img d L name t) (k : List ℕ) (page : ℕ) (f : TargetIn img d k page) where
   abbrev i : ℕ
   i = place a k
 
@@ -57,10 +58,10 @@ module _ {img : List ℕ} {root : ℕ} {L : Layout} {name : List ℕ} {t : Table
         small = table-standing img L (a .well) name t (a .found) .readable .small;
         linked = hereAt t i;
         borne = span-borne (table-standing img L (a .well) name t (a .found) .readable) i (inside a k);
-        at = sym (f .is (reading a k));
+        at = sym (f .is (reading a));
       }
 
-  module _ (s : Spot) (g : SpottedOn img page k s) where
+  module _ (s : Spot) (g : SpottedOn img page (d .sort) k s) where
     abbrev sp : Spotted (keyRule name) k es s
     sp = spotted a k page f s g
 
@@ -92,13 +93,13 @@ module _ {img : List ℕ} {root : ℕ} {L : Layout} {name : List ℕ} {t : Table
       one-fewer = omega (arith, ap length erased, length-spliced (takenOut (s .index)) (coming [] []) es fits)
 
       -- never a split, and no pages but the span's own
-      leave-of : LeaveOf img root page (s .index) (keyRule name) t (L .free) i
+      leave-of : LeaveOf img (d .root) page (s .index) (keyRule name) t (L .free) i
       leave-of =
           record {
             rewrite = record {
               standing = table-standing img L (a .well) name t (a .found);
               at = sym (a .at);
-              change = record { inside = inside a k; at = f .is (reading a k); fits = fits };
+              change = record { inside = inside a k; at = f .is (reading a); fits = fits };
               few = subst (λ (l : List Entry). length l ≤ t .spanSize + 1) (sym erased) (omega (arith, left-fits (keyRule name) (keys-ordered name) t (ok a k) k));
             };
             wants = subst (λ (l : List Entry). wantedBy (parts t l) ≤ length (spanAt t i .conts)) (sym erased) (left-wants name t (ok a k) k);
@@ -123,14 +124,14 @@ module _ {img : List ℕ} {root : ℕ} {L : Layout} {name : List ℕ} {t : Table
           none-left : erase k es ≡ []
           none-left = no-entries (erase k es) (omega (arith, one-fewer, links-of .size, n .1))
 
-          unlink-of : UnlinkOf img root page x (keyRule name) t (L .free) (later .0)
+          unlink-of : UnlinkOf img (d .root) page x (keyRule name) t (L .free) (later .0)
           unlink-of =
               record {
                 gone = record {
                   standing = table-standing img L (a .well) name t (a .found);
                   at = sym (a .at);
                   inside = subst (λ (m : ℕ). m < length (columns t)) (later .1) (inside a k);
-                  here = subst (λ (m : ℕ). page ≡ spanAt t m .page) (later .1) (f .is (reading a k));
+                  here = subst (λ (m : ℕ). page ≡ spanAt t m .page) (later .1) (f .is (reading a));
                 };
                 links = subst (λ (m : ℕ). LinksOf (hereAt t m) x) (later .1) links-of;
               }
@@ -139,7 +140,7 @@ module _ {img : List ℕ} {root : ℕ} {L : Layout} {name : List ℕ} {t : Table
           unfolding removePlan
           gone-plan = λ j. leavePlan L name t (later .1 j) (none-left j)
 
-          gone-done : {out : List ℕ} → Unlinked img root page x out → out ≡ apply (writesOf L (removePlan L name t k)) img
+          gone-done : {out : List ℕ} → Unlinked img (d .root) page x out → out ≡ apply (writesOf L (removePlan L name t k)) img
           unfolding writesOf unlinkPlan
           gone-done {out} u =
               subst (λ p. out ≡ apply (writesOf L p) img) (sym gone-plan) (u .image (keyRule name) t (L .free) (later .0) unlink-of)
@@ -163,36 +164,36 @@ module _ {img : List ℕ} {root : ℕ} {L : Layout} {name : List ℕ} {t : Table
           unfolding removePlan
           left-plan = leave-rewrites L name t i (erase k es) stays
 
-          left-done : {out : List ℕ} → Left img root page (s .index) out → out ≡ apply (writesOf L (removePlan L name t k)) img
+          left-done : {out : List ℕ} → Left img (d .root) page (s .index) out → out ≡ apply (writesOf L (removePlan L name t k)) img
           left-done w =
               w .image (keyRule name) t (L .free) i leave-of
               ∙ ap (λ (ws : List Write). apply ws img) (plan-writes L name t i erased ∙ ap (writesOf L) (sym left-plan))
 
 -- ---- What the calls ask for
 
-module _ {img scratch : List ℕ} {root : ℕ} {k : List ℕ} (h : RemoveReady img scratch root k) (page : ℕ) (f : TargetIn img root k page)
-    (s : Spot) (g : SpottedOn img page k s) (there : s .there ≡ 0 → ⊥) where
-  pub unlink-ready : (x : Links) → LinksRead img page x → (x .prev ≡ 0 → ⊥) × (x .size ≡ 1) → UnlinkReady img root page x
+module _ {img scratch : List ℕ} {d : TableRef} {k : List ℕ} (h : RemoveReady img scratch d k) (page : ℕ) (f : TargetIn img d k page)
+    (s : Spot) (g : SpottedOn img page (d .sort) k s) (there : s .there ≡ 0 → ⊥) where
+  pub unlink-ready : (x : Links) → LinksRead img page x → (x .prev ≡ 0 → ⊥) × (x .size ≡ 1) → UnlinkReady img (d .root) page x
   unlink-ready x y n =
       record { rule = keyRule (h .name); table = h .table; blocks = h .layout .free; place = _; is = unlink-of (h .is) k page f s g there x y n }
 
-  pub leave-ready : LeaveReady img scratch root page (s .index)
+  pub leave-ready : LeaveReady img scratch (d .root) page (s .index)
   leave-ready =
       record { rule = keyRule (h .name); table = h .table; blocks = h .layout .free; place = _; is = leave-of (h .is) k page f s g there; lent = h .lent }
 
 -- ---- The answers
 
-module _ {img : List ℕ} {root : ℕ} {k : List ℕ} (page : ℕ) (f : TargetIn img root k page) (s : Spot) (g : SpottedOn img page k s) where
-  pub not-there : s .there ≡ 0 → RemoveDone img root k false img
+module _ {img : List ℕ} {d : TableRef} {k : List ℕ} (page : ℕ) (f : TargetIn img d k page) (s : Spot) (g : SpottedOn img page (d .sort) k s) where
+  pub not-there : s .there ≡ 0 → RemoveDone img d k false img
   not-there z = record { done = λ e. absurd (true≢false (sym e)); missing = λ e L name t a. (missing a k page f s g z, refl) }
 
   module _ (there : s .there ≡ 0 → ⊥) (x : Links) (y : LinksRead img page x) where
-    was-there : {out : List ℕ} → ((L : Layout) (name : List ℕ) (t : Table) → TableAt img root L name t → out ≡ apply (writesOf L (removePlan L name t k)) img)
-        → RemoveDone img root k true out
+    was-there : {out : List ℕ} → ((L : Layout) (name : List ℕ) (t : Table) → TableAt img d L name t → out ≡ apply (writesOf L (removePlan L name t k)) img)
+        → RemoveDone img d k true out
     was-there h = record { done = λ e L name t a. (found a k page f s g there, h L name t a); missing = λ e. absurd (true≢false e) }
 
-    pub went : (x .prev ≡ 0 → ⊥) × (x .size ≡ 1) → {out : List ℕ} → Unlinked img root page x out → RemoveDone img root k true out
+    pub went : (x .prev ≡ 0 → ⊥) × (x .size ≡ 1) → {out : List ℕ} → Unlinked img (d .root) page x out → RemoveDone img d k true out
     went n u = was-there (λ L name t a. gone-done a k page f s g there x y n u)
 
-    pub stayed : (x .prev ≡ 0) ⊎ (x .size ≡ 1 → ⊥) → {out : List ℕ} → Left img root page (s .index) out → RemoveDone img root k true out
+    pub stayed : (x .prev ≡ 0) ⊎ (x .size ≡ 1 → ⊥) → {out : List ℕ} → Left img (d .root) page (s .index) out → RemoveDone img d k true out
     stayed n w = was-there (λ L name t a. left-done a k page f s g there x y n w)

@@ -6,6 +6,7 @@ use edit::apply::carry_out;
 use edit::fields::Links;
 use edit::fields::read_links;
 use edit::plan::make_plan;
+use search::table::TableRef;
 use search::table::find_span;
 use stage::change::Change;
 use stage::change::find_spot;
@@ -37,22 +38,22 @@ fn leave(image: &mut [u8], scratch: &mut [u8], root: usize, page: usize, index: 
     carry_out(image, scratch, plan, change, &none, &none)
 }
 
-// Removes the key from the table with the skip-list page `root`. Answers whether it was there; else nothing changes. The scratch is
-// as long as the image.
-pub fn remove(image: &mut [u8], scratch: &mut [u8], root: usize, key: &[u8]) -> bool
-    requires { ⌜ RemoveReady (now image) (now scratch) root (now key) ⌝ }
-    ensures { λ r. ⌜ RemoveDone (now (image .entry)) root (now (key .entry)) r (now (image .exit)) ⌝ }
+// Removes the key from the table. Answers whether it was there; else nothing changes. The scratch is as long as the image.
+pub fn remove(image: &mut [u8], scratch: &mut [u8], table: TableRef, key: &[u8]) -> bool
+    requires { ⌜ RemoveReady (now image) (now scratch) table (now key) ⌝ }
+    ensures { λ r. ⌜ RemoveDone (now (image .entry)) table (now (key .entry)) r (now (image .exit)) ⌝ }
 {
-    let page = find_span(image, root, key);
-    let spot = find_spot(image, page, key);
+    let page = find_span(image, table, key);
+    let sort = table.sort;
+    let spot = find_spot(image, page, sort, key);
     if spot.there == 0 {
         return false;
     }
     let links = read_links(image, page);
     if goes(links) {
-        unlink(image, root, page, links);
+        unlink(image, table.root, page, links);
     } else {
-        leave(image, scratch, root, page, spot.index);
+        leave(image, scratch, table.root, page, spot.index);
     }
     true
 }

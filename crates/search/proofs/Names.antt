@@ -18,8 +18,8 @@ use Rattle.search.specs.declared.span.Sought.{Sought}
 use Rattle.search.specs.declared.span.Sought.the-variants.{Found, Missing}
 use Rattle.search.specs.declared.table.Named.the-variants.{Root, Unknown}
 use Rattle.search.specs.Spans.{BytesAt, Answered}
-use Rattle.search.specs.Tables.{FoundIn, NamedIn}
-use Rattle.search.proofs.Readables.{table-readable, meta-reading}
+use Rattle.search.specs.Tables.{metaindex, FoundIn, NamedIn}
+use Rattle.search.proofs.Readables.{table-readable, meta-by}
 
 module _ (img : List ℕ) (L : Layout) (w : WellFormed img L) (name : List ℕ) where
   abbrev rootBytes : Table → List ℕ
@@ -49,9 +49,9 @@ module _ (img : List ℕ) (L : Layout) (w : WellFormed img L) (name : List ℕ) 
       go none f = refl
       go (some t) f = absurd (let z : _≡_ {A = ℕ} 0 1 = cc in omega arith)
 
-  module _ (a : Sought) (f : FoundIn img 2 name a) where
+  module _ (a : Sought) (f : FoundIn img metaindex name a) where
     there : Answered img (find name (entriesOf (L .meta))) a
-    there = f .is (meta-reading img L w)
+    there = f .is (meta-by img L w)
 
     pub named-none : a ≡ Missing → NamedIn L name Unknown
     named-none e =

@@ -1,7 +1,7 @@
 -- The metaindex and every named table of a well-formed image can be read.
 use Prim.Native.Nat.{ℕ, _≤_}
 use native.Mathlib.Omega.{arith}
-use mathlib.Core.Path.{_≡_}
+use mathlib.Core.Path.{_≡_, refl, sym, _∙_}
 use mathlib.Core.List.{List, [], _∷_, _++_}
 use mathlib.Core.Option.{some}
 use lib.ListN.{length}
@@ -13,10 +13,13 @@ use Rattle.blockfile.proofs.Every.{every-left, every-right}
 use Rattle.blockfile.proofs.Count.{every-counted}
 use Rattle.blockfile.proofs.Owned.{ownedBy, owned-within}
 use Rattle.laws.proofs.Middle.{every-found}
+use Rattle.order.specs.declared.sort.Sort.the-variants.{Bytes}
+use Rattle.order.specs.Sorts.{sortOf}
 use Rattle.entries.specs.Places.{IsPage}
+use Rattle.search.specs.declared.table.TableRef.{TableRef}
 use Rattle.search.specs.Spans.{Borne}
-use Rattle.search.specs.Tables.{Readable, Reading}
-use Rattle.search.proofs.Rules.{names-bytewise, keys-bytewise}
+use Rattle.search.specs.Tables.{Readable, Reading, ReadingBy, metaindex}
+use Rattle.search.proofs.Rules.{names-sort, keys-sort}
 
 -- what holds of all that is gathered holds of what each element gives
 every-gathered : {A B : Type 0} (R : B → Type 0) (f : A → List B) (xs : List A) → Every R (gather f xs) → Every (λ x. Every R (f x)) xs
@@ -45,7 +48,7 @@ module _ (img : List ℕ) (L : Layout) (w : WellFormed img L) where
 
   pub meta-readable : Readable img nameRule (L .meta)
   meta-readable =
-      record { small = small; borne = every-left (Borne img) (tablePieces (L .meta)) others (all-borne .1); ok = w .metaOk; order = names-bytewise }
+      record { small = small; borne = every-left (Borne img) (tablePieces (L .meta)) others (all-borne .1); ok = w .metaOk; order = names-sort }
 
   all-readable : Every (λ n. Every (Borne img) (tablePieces (n .value)) × TableOk (keyRule (n .key)) (n .value)) (L .tables)
   all-readable =
@@ -57,7 +60,7 @@ module _ (img : List ℕ) (L : Layout) (w : WellFormed img L) where
   pub table-readable : (name : List ℕ) (t : Table) → find name (L .tables) ≡ some t → Readable img (keyRule name) t
   table-readable name t e =
       let h = every-found (λ (n : Keyed Table). Every (Borne img) (tablePieces (n .value)) × TableOk (keyRule (n .key)) (n .value)) name t (L .tables) all-readable e in
-      record { small = small; borne = h .0; ok = h .1; order = keys-bytewise name }
+      record { small = small; borne = h .0; ok = h .1; order = keys-sort name }
 
   -- as the functions on tables ask for it
   abbrev pub meta-reading : Reading img 2
@@ -65,3 +68,18 @@ module _ (img : List ℕ) (L : Layout) (w : WellFormed img L) where
 
   abbrev pub table-reading : (name : List ℕ) (t : Table) → find name (L .tables) ≡ some t → (page : ℕ) → t .root ≡ page → Reading img page
   table-reading name t e page h = record { rule = keyRule name; table = t; readable = table-readable name t e; root = h }
+
+  -- the names sort by bytes, and keys as the table's name says
+  pub meta-sort : meta-readable .order .sort ≡ Bytes
+  unfolding meta-readable
+  meta-sort = refl
+
+  pub table-sort : (name : List ℕ) (t : Table) (e : find name (L .tables) ≡ some t) → table-readable name t e .order .sort ≡ sortOf name
+  unfolding table-readable
+  table-sort name t e = refl
+
+  abbrev pub meta-by : ReadingBy img metaindex
+  meta-by = record { of = meta-reading; by = meta-sort }
+
+  abbrev pub table-by : (name : List ℕ) (t : Table) → find name (L .tables) ≡ some t → (d : TableRef) → t .root ≡ d .root → d .sort ≡ sortOf name → ReadingBy img d
+  table-by name t e d h q = record { of = table-reading name t e (d .root) h; by = table-sort name t e ∙ sym q }

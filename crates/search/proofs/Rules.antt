@@ -1,68 +1,54 @@
--- The order of keys: the code compares by bytes, and so do the rules of names and of keys. The one place that ties the two.
-use Prim.Native.Nat.{ℕ}
+-- The order of keys: the code compares as the rules of names and of keys do. The one place that ties the two.
+use Prim.Native.Nat.{ℕ, _≤_}
 use native.Mathlib.Omega.{arith}
-use mathlib.Core.Path.{_≡_, refl, sym, subst}
-use mathlib.Core.Bool.{Bool, true, false, cond}
-use mathlib.Core.List.{List, []}
+use mathlib.Core.Path.{_≡_, refl, ap, sym, subst}
+use mathlib.Core.List.{List}
 use lib.ListN.{length}
-use lib.Dec.{T}
-use Rattle.blockfile.specs.Order.{KeyRule, bytesBelow, same, within, allWithin, nameRule, keyRule}
-use Rattle.blockfile.proofs.Bools.{and-both, within-is, same-eq}
-use Rattle.laws.proofs.Orders.{Ordered, keys-ordered}
-use Rattle.order.specs.declared.bytes.Order.the-variants.{Less, Equal, Greater}
-use Rattle.order.specs.Bytes.{order}
-use Rattle.order.proofs.Orders.{less-below, equal-same}
-use Rattle.search.specs.Spans.{Bytewise}
+use lib.Dec.{T, eqb→eq}
+use Rattle.blockfile.specs.Order.{KeyRule, within, allWithin, nameRule, keyRule}
+use Rattle.blockfile.proofs.Bools.{and-both, within-is}
+use Rattle.laws.proofs.Orders.{Ordered, by-rule}
+use Rattle.order.specs.declared.bytes.Order.the-variants.{Less, Greater}
+use Rattle.order.specs.declared.sort.Sort.the-variants.{Bytes}
+use Rattle.order.specs.Sorts.{sortOf, ruleAs, orderAs}
+use Rattle.order.proofs.Sorts.{rule-as, sort-ordered, less-below, greater-below}
+use Rattle.search.specs.Spans.{Sorts}
 
-pub names-bytewise : Bytewise nameRule
+pub names-below : (k l : List ℕ) → nameRule .below k l ≡ ruleAs Bytes .below k l
 unfolding nameRule
-names-bytewise =
-    record {
-      below = λ k l. refl;
-      some = λ k h. within-is 1 255 (length k) (and-both (within 1 255 (length k)) (allWithin 0x21 0x7e k) h .0) .0;
-    }
+names-below k l = refl
 
-pub keys-bytewise : (name : List ℕ) → Bytewise (keyRule name)
-unfolding keyRule
-keys-bytewise name = record { below = λ k l. refl; some = λ k h. within-is 1 65535 (length k) h .0 }
+pub names-some : (k : List ℕ) → T (nameRule .allowed k) → 1 ≤ length k
+unfolding nameRule
+names-some k h = within-is 1 255 (length k) (and-both (within 1 255 (length k)) (allWithin 0x21 0x7e k) h .0) .0
 
-bytes-ordered : (name : List ℕ)
-    → ((k : List ℕ) → T (bytesBelow k k) → ⊥) × ((a b c : List ℕ) → T (bytesBelow a b) → T (bytesBelow b c) → T (bytesBelow a c))
-    × ((a b : List ℕ) → (T (same a b) → ⊥) → (T (bytesBelow a b) → ⊥) → T (bytesBelow b a))
-unfolding keyRule
-bytes-ordered name = let o : Ordered (keyRule name) = keys-ordered name in (o .irrefl, o .trans, o .total)
+abbrev pub names-sort : Sorts nameRule
+names-sort = record { sort = Bytes; below = names-below; some = names-some }
 
--- Greater where the first key is neither the same nor below
-greater-neither : (j k : List ℕ) → order j k ≡ Greater → (same j k ≡ false) × (bytesBelow j k ≡ false)
-unfolding order
-greater-neither j k e = go (same j k) (bytesBelow j k) e
-  where
-    go : (s b : Bool) → cond s Equal (cond b Less Greater) ≡ Greater → (s ≡ false) × (b ≡ false)
-    go true b e = absurd (let z : _≡_ {A = ℕ} 0 1 = cc in omega arith)
-    go false true e = absurd (let z : _≡_ {A = ℕ} 0 1 = cc in omega arith)
-    go false false e = (refl, refl)
+pub keys-some : (name k : List ℕ) → T (keyRule name .allowed k) → 1 ≤ length k
+keys-some =
+    by-rule (λ r. (k : List ℕ) → T (r .allowed k) → 1 ≤ length k) (λ k h. let e : length k ≡ 4 = eqb→eq (length k) 4 h in omega arith)
+    (λ k h. within-is 1 65535 (length k) h .0)
 
-module _ (r : KeyRule) (w : Bytewise r) where
-  pub bytewise-ordered : Ordered r
-  bytewise-ordered =
-      let o = bytes-ordered [] in
-      let to : (a b : List ℕ) → T (r .below a b) → T (bytesBelow a b) = λ a b. subst T (w .below a b) in
-      let from : (a b : List ℕ) → T (bytesBelow a b) → T (r .below a b) = λ a b. subst T (sym (w .below a b)) in
+abbrev pub keys-sort : (name : List ℕ) → Sorts (keyRule name)
+keys-sort name = record { sort = sortOf name; below = λ k l. ap (λ (r : KeyRule). r .below k l) (rule-as name); some = keys-some name }
+
+module _ (r : KeyRule) (w : Sorts r) where
+  pub sorts-ordered : Ordered r
+  sorts-ordered =
+      let o = sort-ordered (w .sort) in
+      let to : (a b : List ℕ) → T (r .below a b) → T (ruleAs (w .sort) .below a b) = λ a b. subst T (w .below a b) in
+      let from : (a b : List ℕ) → T (ruleAs (w .sort) .below a b) → T (r .below a b) = λ a b. subst T (sym (w .below a b)) in
       record {
-        irrefl = λ k t. o .0 k (to k k t);
-        trans = λ a b c t u. from a c (o .1 a b c (to a b t) (to b c u));
-        total = λ a b s t. from b a (o .2 a b s (λ u. t (from a b u)));
+        irrefl = λ k t. o .irrefl k (to k k t);
+        trans = λ a b c t u. from a c (o .trans a b c (to a b t) (to b c u));
+        total = λ a b s t. from b a (o .total a b s (λ u. t (from a b u)));
       }
 
   -- what the answer of a comparison says of the key j in the image and the key k that is sought
   module _ (j k : List ℕ) where
-    pub less-under : order j k ≡ Less → T (r .below j k)
-    less-under e = subst T (sym (w .below j k)) (less-below j k e)
+    pub less-under : orderAs (w .sort) j k ≡ Less → T (r .below j k)
+    less-under e = subst T (sym (w .below j k)) (less-below (w .sort) j k e)
 
-    pub equal-is : order j k ≡ Equal → j ≡ k
-    equal-is e = same-eq j k (equal-same j k e)
-
-    pub greater-over : order j k ≡ Greater → T (r .below k j)
-    greater-over e =
-        let n : (same j k ≡ false) × (bytesBelow j k ≡ false) = greater-neither j k e in
-        subst T (sym (w .below k j)) (bytes-ordered [] .2 j k (λ t. subst T (n .0) t) (λ t. subst T (n .1) t))
+    pub greater-over : orderAs (w .sort) j k ≡ Greater → T (r .below k j)
+    greater-over e = subst T (sym (w .below k j)) (greater-below (w .sort) j k e)

@@ -9,7 +9,7 @@ use lib.ListN.{length}
 use lib.Dec.{T}
 use Rattle.blockfile.specs.Bytes.{pg, be16, Every}
 use Rattle.blockfile.specs.Layout.{Entry}
-use Rattle.blockfile.specs.Order.{KeyRule, bytesBelow, same, Rising, find, above}
+use Rattle.blockfile.specs.Order.{KeyRule, same, Rising, find, above}
 use Rattle.blockfile.proofs.Bools.{so, not-so, same-refl}
 use Rattle.blockfile.proofs.Every.{every-so, every-join}
 use Rattle.laws.proofs.Orders.{Ordered}
@@ -18,17 +18,19 @@ use Rattle.laws.proofs.Middle.{under-differs, under-not-over}
 use Rattle.pages.specs.Places.{Inside}
 use Rattle.order.specs.declared.bytes.Order.{Order}
 use Rattle.order.specs.declared.bytes.Order.the-variants.{Less, Equal, Greater}
+use Rattle.order.specs.declared.sort.Sort.{Sort}
+use Rattle.order.specs.Sorts.{orderAs}
+use Rattle.order.proofs.Sorts.{equal-same, some-below}
 use Rattle.entries.specs.declared.place.Place.{Place}
 use Rattle.entries.specs.declared.place.Sizes.{Sizes}
 use Rattle.entries.specs.Places.{Moved, Measured}
-use Rattle.order.specs.Bytes.{order}
-use Rattle.entries.specs.Keys.{ComparedTo}
+use Rattle.entries.specs.Sorted.{ComparedAs}
 use Rattle.search.specs.declared.span.Sought.{Sought}
 use Rattle.search.specs.declared.span.Sought.the-variants.{Found, Missing}
 use Rattle.search.specs.declared.span.Stop.{Stop}
 use Rattle.search.specs.declared.span.Stop.the-variants.{Here, Above, End}
-use Rattle.search.specs.Spans.{Bytewise, SpanOn, BytesAt, Along, EntryThere, EntryAt, Answered, Before, Met, Passed, Ended, Stopped, over, KeyOf}
-use Rattle.search.proofs.Rules.{bytewise-ordered, less-under, equal-is, greater-over}
+use Rattle.search.specs.Spans.{Sorts, SpanOn, BytesAt, Along, EntryThere, EntryAt, Answered, Before, Met, Passed, Ended, Stopped, over, KeyOf}
+use Rattle.search.proofs.Rules.{sorts-ordered, less-under, greater-over}
 use Rattle.search.proofs.Entries.{bytes-key, along-entry, span-along}
 
 -- ---- Answers
@@ -72,17 +74,11 @@ stop-end m =
 
 -- ---- The first of rising entries against the key
 
-module _ (r : KeyRule) (w : Bytewise r) (k : List ℕ) (e : Entry) (es : List Entry) where
+module _ (r : KeyRule) (w : Sorts r) (k : List ℕ) (e : Entry) (es : List Entry) where
   o : Ordered r
-  o = bytewise-ordered r w
+  o = sorts-ordered r w
 
-  -- nothing is below the empty key
-  some-below : (j l : List ℕ) → T (bytesBelow j l) → same l [] ≡ false
-  some-below [] [] t = absurd t
-  some-below (x ∷ j) [] t = absurd t
-  some-below j (y ∷ l) t = refl
-
-  -- a key that is allowed is not empty
+  -- a key of some bytes is not the empty one
   some-key : (j : List ℕ) → 1 ≤ length j → same j [] ≡ false
   some-key [] h = absurd (omega arith)
   some-key (x ∷ j) h = refl
@@ -96,7 +92,7 @@ module _ (r : KeyRule) (w : Bytewise r) (k : List ℕ) (e : Entry) (es : List En
     find-on = rw (under-differs r o k (e .key) u)
 
     above-on : above r k (e ∷ es) ≡ above r k es
-    above-on = rw (some-below (e .key) k (subst T (w .below (e .key) k) u), under-not-over r o k (e .key) u)
+    above-on = rw (some-key k (some-below (w .sort) (e .key) k (subst T (w .below (e .key) k) u)), under-not-over r o k (e .key) u)
 
   module _ (v : T (r .below k (e .key))) (h : Rising r (e ∷ es)) where
     find-over : find k (e ∷ es) ≡ none
@@ -201,9 +197,9 @@ module _ {img : List ℕ} {r : KeyRule} {k : List ℕ} {es : List Entry} {at : P
   pub opened-entry : EntryAt img g (s .first) (s .more)
   opened-entry = along-entry (s .ahead .along) g m
 
-  module _ (w : Bytewise r) (a : Order) (c : ComparedTo img (g .after) (g .key) k a) where
-    compared : a ≡ order (s .first .key) k
-    compared = c .is (s .first .key) (bytes-key (opened-entry .key))
+  module _ (w : Sorts r) {sort : Sort} (by : w .sort ≡ sort) (a : Order) (c : ComparedAs sort img (g .after) (g .key) k a) where
+    compared : a ≡ orderAs (w .sort) (s .first .key) k
+    compared = c .is (s .first .key) (bytes-key (opened-entry .key)) ∙ ap (λ (i : Sort). orderAs i (s .first .key) k) (sym by)
 
     pub seeking-next : a ≡ Less → (p : Place) → Moved img (g .after) (g .key + g .value) p → Seeking img r k es p (left - 1)
     seeking-next e p t =
@@ -219,7 +215,7 @@ module _ {img : List ℕ} {r : KeyRule} {k : List ℕ} {es : List Entry} {at : P
 
     pub seeking-here : a ≡ Equal → Stopped img r k es (Here g left)
     seeking-here e =
-        let q : s .first .key ≡ k = equal-is r w (s .first .key) k (sym compared ∙ e) in
+        let q : s .first .key ≡ k = equal-same (w .sort) (s .first .key) k (sym compared ∙ e) in
         stop-here
         (record {
           entry = s .first;
@@ -337,13 +333,14 @@ module _ {img : List ℕ} {page : ℕ} (x : SpanOn img page) where
     unfolding span-entry opening
     span-first = ap (above (x .rule) []) (opening .is)
 
-    module _ (k : List ℕ) (g : Sizes) (m : Measured img (record { page = page; offset = 20 }) g) (a : Order) (c : ComparedTo img (g .after) (g .key) k a) where
+    module _ (k : List ℕ) (g : Sizes) (m : Measured img (record { page = page; offset = 20 }) g) {sort : Sort} (by : x .there .order .sort ≡ sort) (a : Order)
+        (c : ComparedAs sort img (g .after) (g .key) k a) where
       abbrev j : List ℕ
       j = opening .first .key
 
-      compared-first : a ≡ order j k
+      compared-first : a ≡ orderAs (x .there .order .sort) j k
       unfolding span-entry
-      compared-first = c .is j (bytes-key (along-entry (span-entry .along) g m .key))
+      compared-first = c .is j (bytes-key (along-entry (span-entry .along) g m .key)) ∙ ap (λ (i : Sort). orderAs i j k) (sym by)
 
       over-first : over (x .rule) k (x .linked .span .entries) ≡ x .rule .below k j
       over-first = ap (over (x .rule) k) (opening .is)
@@ -353,9 +350,9 @@ module _ {img : List ℕ} {page : ℕ} (x : SpanOn img page) where
 
       pub begins-less : a ≡ Less → false ≡ over (x .rule) k (x .linked .span .entries)
       begins-less e =
-          sym (over-first ∙ under-not-over (x .rule) (bytewise-ordered (x .rule) (x .there .order)) k j (less-under (x .rule) (x .there .order) j k (sym compared-first ∙ e)))
+          sym (over-first ∙ under-not-over (x .rule) (sorts-ordered (x .rule) (x .there .order)) k j (less-under (x .rule) (x .there .order) j k (sym compared-first ∙ e)))
 
       pub begins-equal : a ≡ Equal → false ≡ over (x .rule) k (x .linked .span .entries)
       begins-equal e =
-          let q : j ≡ k = equal-is (x .rule) (x .there .order) j k (sym compared-first ∙ e) in
-          sym (over-first ∙ not-so (x .rule .below k j) (λ t. bytewise-ordered (x .rule) (x .there .order) .irrefl k (subst (λ (i : List ℕ). T (x .rule .below k i)) q t)))
+          let q : j ≡ k = equal-same (x .there .order .sort) j k (sym compared-first ∙ e) in
+          sym (over-first ∙ not-so (x .rule .below k j) (λ t. sorts-ordered (x .rule) (x .there .order) .irrefl k (subst (λ (i : List ℕ). T (x .rule .below k i)) q t)))

@@ -20,11 +20,13 @@ use Rattle.laws.proofs.Middle.{AllOver, rising-left, rising-right}
 use Rattle.laws.proofs.Places.{gather-append, every-at, entriesBefore, entriesAfter, place-entries}
 use Rattle.laws.proofs.Targets.{Target, target-is, find-at}
 use Rattle.pages.specs.Places.{Inside}
+use Rattle.order.specs.declared.sort.Sort.{Sort}
 use Rattle.entries.specs.Places.{IsPage}
 use Rattle.search.specs.declared.span.Sought.{Sought}
-use Rattle.search.specs.Spans.{Borne, SpanOn, EntryThere, Answered, over, OverOn, FoundOn, AboveOn, KeyOf}
-use Rattle.search.specs.Tables.{Reading, TargetIn}
-use Rattle.search.proofs.Rules.{bytewise-ordered}
+use Rattle.search.specs.declared.table.TableRef.{TableRef}
+use Rattle.search.specs.Spans.{Borne, SpanOn, SpanBy, EntryThere, Answered, over, OverOn, FoundOn, KeyOf}
+use Rattle.search.specs.Tables.{Reading, ReadingBy, TargetIn}
+use Rattle.search.proofs.Rules.{sorts-ordered}
 use Rattle.search.proofs.Seeks.{answer-as, span-entry, span-first}
 
 -- ---- The span at a place of a table
@@ -55,7 +57,7 @@ module _ {img : List ℕ} {root : ℕ} (t : Reading img root) where
   reading-spans = subst (λ (p : ℕ). be32 (pg img p) 20 ≡ length (columns (t .table))) (t .root) (t .readable .borne .0 .0 .spans)
 
   pub ordered : Ordered (t .rule)
-  ordered = bytewise-ordered (t .rule) (t .readable .order)
+  ordered = sorts-ordered (t .rule) (t .readable .order)
 
   pub length-spans : length spansHere ≡ length (columns (t .table))
   length-spans = length-map (columns (t .table)) (λ c. c .span)
@@ -93,27 +95,19 @@ module _ {img : List ℕ} {root : ℕ} (t : Reading img root) where
             at = sym e;
           }
 
-      -- it is the table's, with the table's rule
       pub reading-at : reading-span .linked .span ≡ spanAt (t .table) i
       unfolding reading-span
       reading-at = refl
 
-      pub reading-rule : reading-span .rule ≡ t .rule
-      unfolding reading-span
-      reading-rule = refl
+      module _ {s : Sort} (by : t .readable .order .sort ≡ s) where
+        pub reading-by : SpanBy img page s
+        unfolding reading-span
+        reading-by = record { on = reading-span; by = by }
 
-      -- what is said of every span on the page is said of this one
-      pub over-at : (k : List ℕ) (b : Bool) → OverOn img page k b → b ≡ over (t .rule) k (spanAt (t .table) i .entries)
-      unfolding reading-span
-      over-at k b o = o .is reading-span
-
-      pub found-at : (k : List ℕ) (a : Sought) → FoundOn img page k a → Answered img (find k (spanAt (t .table) i .entries)) a
-      unfolding reading-span
-      found-at k a f = f .is reading-span
-
-      pub above-on : (k : List ℕ) (a : Sought) → AboveOn img page k a → Answered img (above (t .rule) k (spanAt (t .table) i .entries)) a
-      unfolding reading-span
-      above-on k a f = f .is reading-span
+        -- it is the table's, with the table's rule: what is said of every span on the page is said of this one
+        pub said-at : (F : KeyRule → List Entry → Type 0) → ((x : SpanBy img page s) → F (x .on .rule) (x .on .linked .span .entries)) → F (t .rule) (spanAt (t .table) i .entries)
+        unfolding reading-span reading-by
+        said-at F f = f reading-by
 
       pub next-at : be32 (pg img page) 12 ≡ firstOf (map (λ s. s .page) (drop (suc i) spansHere))
       unfolding reading-span
@@ -199,8 +193,8 @@ module _ {img : List ℕ} {root : ℕ} {t : Reading img root} {k : List ℕ} {pa
     page-here : page ≡ spanAt (t .table) (w .place) .page
     page-here = w .here ∙ ap (λ (ss : List Span). firstOf (map (λ s. s .page) ss)) first-here
 
-    pub walking-span : SpanOn img page
-    walking-span = reading-span t (w .place) within page page-here
+    pub walking-span : {s : Sort} → t .readable .order .sort ≡ s → SpanBy img page s
+    walking-span = reading-by t (w .place) within page page-here
 
     rest-here : target (t .rule) k (t .table)
         ≡ lastPlace (t .rule) k (cond (begins (t .rule) k (spanAt (t .table) (w .place) .entries)) (w .place) (w .place - 1)) (suc (w .place)) (drop (suc (w .place)) (spansHere t))
@@ -214,9 +208,9 @@ module _ {img : List ℕ} {root : ℕ} {t : Reading img root} {k : List ℕ} {pa
         (subst (Rising (t .rule)) (ap (gather (λ s. s .entries)) (sym (take-append-drop (w .place) ss)) ∙ gather-append (λ s. s .entries) (take (w .place) ss) (drop (w .place) ss))
         (t .readable .ok .rising)))
 
-    module _ (b : Bool) (o : OverOn img page k b) where
+    module _ {s : Sort} (by : t .readable .order .sort ≡ s) (b : Bool) (o : OverOn img page s k b) where
       over-here : b ≡ over (t .rule) k (spanAt (t .table) (w .place) .entries)
-      over-here = over-at t (w .place) within page page-here k b o
+      over-here = said-at t (w .place) within page page-here by (λ r es. b ≡ over r k es) (o .is)
 
       pub walking-stop : b ≡ true → found ≡ spanAt (t .table) (target (t .rule) k (t .table)) .page
       walking-stop e =
@@ -252,9 +246,14 @@ module _ {img : List ℕ} {root : ℕ} (t : Reading img root) (k : List ℕ) whe
   pub at-target : Target (t .rule) k (t .table) place
   at-target = target-is (t .rule) (ordered t) k (t .table) (t .readable .ok)
 
-  module _ (page : ℕ) (h : TargetIn img root k page) where
-    pub target-span : SpanOn img page
-    target-span = reading-span t place (at-target .place) page (h .is t)
+module _ {img : List ℕ} {d : TableRef} (x : ReadingBy img d) (k : List ℕ) (page : ℕ) (h : TargetIn img d k page) where
+  pub target-span : SpanBy img page (d .sort)
+  target-span = reading-by (x .of) (place (x .of) k) (at-target (x .of) k .place) page (h .is x) (x .by)
 
-    pub find-in : (a : Sought) → FoundOn img page k a → Answered img (find k (entriesOf (t .table))) a
-    find-in a f = answer-as (find-at (t .rule) (ordered t) k (t .table) place at-target) (found-at t place (at-target .place) page (h .is t) k a f)
+  pub said-target : (F : KeyRule → List Entry → Type 0) → ((y : SpanBy img page (d .sort)) → F (y .on .rule) (y .on .linked .span .entries))
+      → F (x .of .rule) (spanAt (x .of .table) (place (x .of) k) .entries)
+  said-target = said-at (x .of) (place (x .of) k) (at-target (x .of) k .place) page (h .is x) (x .by)
+
+  pub find-in : (a : Sought) → FoundOn img page (d .sort) k a → Answered img (find k (entriesOf (x .of .table))) a
+  find-in a f =
+      answer-as (find-at (x .of .rule) (ordered (x .of)) k (x .of .table) (place (x .of) k) (at-target (x .of) k)) (said-target (λ r es. Answered img (find k es) a) (f .is))

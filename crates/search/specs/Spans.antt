@@ -8,9 +8,11 @@ use lib.ListN.{length, take, drop}
 use lib.Dec.{T}
 use Rattle.blockfile.specs.Bytes.{pg, Every}
 use Rattle.blockfile.specs.Layout.{Entry, entriesEnd, reached}
-use Rattle.blockfile.specs.Order.{KeyRule, bytesBelow, Rising, find, above}
+use Rattle.blockfile.specs.Order.{KeyRule, Rising, find, above}
 use Rattle.blockfile.specs.Fields.{LinkedSpan, EntriesAt}
 use Rattle.blockfile.specs.WellFormed.{Piece, span, pagesOf, Bears}
+use Rattle.order.specs.declared.sort.Sort.{Sort}
+use Rattle.order.specs.Sorts.{ruleAs}
 use Rattle.entries.specs.declared.place.Place.{Place}
 use Rattle.entries.specs.declared.place.Sizes.{Sizes}
 use Rattle.entries.specs.Places.{IsPage, Rest, Enough, Moved}
@@ -19,9 +21,10 @@ use Rattle.search.specs.declared.span.Sought.the-variants.{Found, Missin
 use Rattle.search.specs.declared.span.Stop.{Stop}
 use Rattle.search.specs.declared.span.Stop.the-variants.{Here, Above, End}
 
--- the rule has the order in which the code compares keys, and allows no empty key
-pub record Bytewise (r : KeyRule) : Type 0 where
-  pub below : (k l : List ℕ) → r .below k l ≡ bytesBelow k l
+-- the rule has an order in which the code compares keys, and allows no empty key
+pub record Sorts (r : KeyRule) : Type 0 where
+  pub sort : Sort
+  pub below : (k l : List ℕ) → r .below k l ≡ ruleAs sort .below k l
   pub some : (k : List ℕ) → T (r .allowed k) → 1 ≤ length k
 
 -- ---- A span on the image
@@ -37,7 +40,7 @@ pub record Spanned (img : List ℕ) (r : KeyRule) (x : LinkedSpan) : Type 0 wher
   pub reach : 1 + length (x .span .conts) ≡ reached (x .span .entries)
   pub keys : Every (λ e. T (r .allowed (e .key))) (x .span .entries)
   pub rising : Rising r (x .span .entries)
-  pub order : Bytewise r
+  pub order : Sorts r
 
 -- a span of a table is on the page
 pub record SpanOn (img : List ℕ) (page : ℕ) : Type 0 where
@@ -45,6 +48,11 @@ pub record SpanOn (img : List ℕ) (page : ℕ) : Type 0 where
   pub linked : LinkedSpan
   pub there : Spanned img rule linked
   pub at : linked .span .page ≡ page
+
+-- with keys that sort so
+pub record SpanBy (img : List ℕ) (page : ℕ) (s : Sort) : Type 0 where
+  pub on : SpanOn img page
+  pub by : on .there .order .sort ≡ s
 
 -- ---- Bytes and entries at a place
 
@@ -133,19 +141,19 @@ abbrev pub over : KeyRule → (key : List ℕ) → List Entry → Bool
 over r k [] = false
 over r k (e ∷ es) = r .below k (e .key)
 
--- ---- What the functions on a span answer, for every span that is on the page
+-- ---- What the functions on a span answer, for every span that is on the page and sorts so
 
-pub record StoppedOn (img : List ℕ) (page : ℕ) (k : List ℕ) (s : Stop) : Type 0 where
-  pub is : (x : SpanOn img page) → Stopped img (x .rule) k (x .linked .span .entries) s
+pub record StoppedOn (img : List ℕ) (page : ℕ) (s : Sort) (k : List ℕ) (r : Stop) : Type 0 where
+  pub is : (x : SpanBy img page s) → Stopped img (x .on .rule) k (x .on .linked .span .entries) r
 
-pub record FoundOn (img : List ℕ) (page : ℕ) (k : List ℕ) (r : Sought) : Type 0 where
-  pub is : (x : SpanOn img page) → Answered img (find k (x .linked .span .entries)) r
+pub record FoundOn (img : List ℕ) (page : ℕ) (s : Sort) (k : List ℕ) (r : Sought) : Type 0 where
+  pub is : (x : SpanBy img page s) → Answered img (find k (x .on .linked .span .entries)) r
 
-pub record AboveOn (img : List ℕ) (page : ℕ) (k : List ℕ) (r : Sought) : Type 0 where
-  pub is : (x : SpanOn img page) → Answered img (above (x .rule) k (x .linked .span .entries)) r
+pub record AboveOn (img : List ℕ) (page : ℕ) (s : Sort) (k : List ℕ) (r : Sought) : Type 0 where
+  pub is : (x : SpanBy img page s) → Answered img (above (x .on .rule) k (x .on .linked .span .entries)) r
 
-pub record OverOn (img : List ℕ) (page : ℕ) (k : List ℕ) (r : Bool) : Type 0 where
-  pub is : (x : SpanOn img page) → r ≡ over (x .rule) k (x .linked .span .entries)
+pub record OverOn (img : List ℕ) (page : ℕ) (s : Sort) (k : List ℕ) (r : Bool) : Type 0 where
+  pub is : (x : SpanBy img page s) → r ≡ over (x .on .rule) k (x .on .linked .span .entries)
 
 -- the key of the entry at the place
 pub record KeyOf (img : List ℕ) (at : Place) (r : Sought) : Type 0 where

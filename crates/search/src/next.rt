@@ -1,19 +1,21 @@
 // The next key of a table.
-ghost use Rattle.search.specs.Tables.{Reading, AboveIn};
+ghost use Rattle.search.specs.Tables.{ReadingBy, AboveIn};
 use crate::span::Sought;
 use crate::span::key_above;
 use crate::span::key_of;
+use crate::table::TableRef;
 use crate::table::find_span;
 use entries::place::Place;
 use pages::read::get32;
 
-// The smallest key above the given one in the table with this skip-list page; of all keys, for the empty one.
-pub fn next_key(image: &[u8], root: usize, key: &[u8]) -> Sought
-    requires { ⌜ Reading (now image) root ⌝ }
-    ensures { λ r. ⌜ AboveIn (now (image .entry)) root (now (key .entry)) r ⌝ }
+// The smallest key above the given one in the table; of all keys, for the empty one.
+pub fn next_key(image: &[u8], table: TableRef, key: &[u8]) -> Sought
+    requires { ⌜ ReadingBy (now image) table ⌝ }
+    ensures { λ r. ⌜ AboveIn (now (image .entry)) table (now (key .entry)) r ⌝ }
 {
-    let page = find_span(image, root, key);
-    let here = key_above(image, page, key);
+    let page = find_span(image, table, key);
+    let sort = table.sort;
+    let here = key_above(image, page, sort, key);
     if let Sought::Found(_, _) = here {
         return here;
     }

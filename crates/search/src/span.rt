@@ -1,10 +1,12 @@
-// The entries of one span, read in their order. Keys rise, so a search stops at the first key above the one sought.
-ghost use Rattle.search.specs.Spans.{SpanOn, EntryThere, StoppedOn, FoundOn, AboveOn, OverOn, KeyOf};
-use entries::key::compare_slice;
+// The entries of one span, read in their order. Keys rise as those of their table sort, so a search stops at the first key above the one
+// sought.
+ghost use Rattle.search.specs.Spans.{SpanBy, EntryThere, StoppedOn, FoundOn, AboveOn, OverOn, KeyOf};
 use entries::place::Place;
 use entries::place::Sizes;
 use entries::place::lengths;
+use entries::sorted::compare_as;
 use order::bytes::Order;
+use order::sort::Sort;
 use pages::read::get16;
 use reader::place_after;
 
@@ -25,16 +27,16 @@ pub enum Stop {
 }
 
 // Searches the entries of the span on the page for the key.
-pub fn seek(image: &[u8], page: usize, key: &[u8]) -> Stop
-    requires { ⌜ SpanOn (now image) page ⌝ }
-    ensures { λ r. ⌜ StoppedOn (now (image .entry)) page (now (key .entry)) r ⌝ }
+pub fn seek(image: &[u8], page: usize, sort: Sort, key: &[u8]) -> Stop
+    requires { ⌜ SpanBy (now image) page sort ⌝ }
+    ensures { λ r. ⌜ StoppedOn (now (image .entry)) page sort (now (key .entry)) r ⌝ }
 {
     let mut at = Place { page, offset: 20 };
     let mut left = get16(image, page, 18);
     while left != 0 {
         let g = lengths(image, at);
         let first = g.after;
-        let order = compare_slice(image, first, g.key, key);
+        let order = compare_as(image, first, g.key, sort, key);
         match order {
             Order::Less => {
                 at = place_after(image, first, g.key + g.value);
@@ -52,11 +54,11 @@ pub fn seek(image: &[u8], page: usize, key: &[u8]) -> Stop
 }
 
 // The value under the key in the span on the page.
-pub fn find_entry(image: &[u8], page: usize, key: &[u8]) -> Sought
-    requires { ⌜ SpanOn (now image) page ⌝ }
-    ensures { λ r. ⌜ FoundOn (now (image .entry)) page (now (key .entry)) r ⌝ }
+pub fn find_entry(image: &[u8], page: usize, sort: Sort, key: &[u8]) -> Sought
+    requires { ⌜ SpanBy (now image) page sort ⌝ }
+    ensures { λ r. ⌜ FoundOn (now (image .entry)) page sort (now (key .entry)) r ⌝ }
 {
-    let stop = seek(image, page, key);
+    let stop = seek(image, page, sort, key);
     match stop {
         Stop::Here(g, _) => {
             let first = g.after;
@@ -79,11 +81,11 @@ pub fn key_of(image: &[u8], at: Place) -> Sought
 }
 
 // The smallest key above the given one in the span on the page.
-pub fn key_above(image: &[u8], page: usize, key: &[u8]) -> Sought
-    requires { ⌜ SpanOn (now image) page ⌝ }
-    ensures { λ r. ⌜ AboveOn (now (image .entry)) page (now (key .entry)) r ⌝ }
+pub fn key_above(image: &[u8], page: usize, sort: Sort, key: &[u8]) -> Sought
+    requires { ⌜ SpanBy (now image) page sort ⌝ }
+    ensures { λ r. ⌜ AboveOn (now (image .entry)) page sort (now (key .entry)) r ⌝ }
 {
-    let stop = seek(image, page, key);
+    let stop = seek(image, page, sort, key);
     match stop {
         Stop::Here(g, left) => {
             if left == 1 {
@@ -102,16 +104,16 @@ pub fn key_above(image: &[u8], page: usize, key: &[u8]) -> Sought
 }
 
 // Whether the span on the page begins above the key. An empty span does not.
-pub fn begins_above(image: &[u8], page: usize, key: &[u8]) -> bool
-    requires { ⌜ SpanOn (now image) page ⌝ }
-    ensures { λ r. ⌜ OverOn (now (image .entry)) page (now (key .entry)) r ⌝ }
+pub fn begins_above(image: &[u8], page: usize, sort: Sort, key: &[u8]) -> bool
+    requires { ⌜ SpanBy (now image) page sort ⌝ }
+    ensures { λ r. ⌜ OverOn (now (image .entry)) page sort (now (key .entry)) r ⌝ }
 {
     if get16(image, page, 18) == 0 {
         return false;
     }
     let g = lengths(image, Place { page, offset: 20 });
     let first = g.after;
-    let order = compare_slice(image, first, g.key, key);
+    let order = compare_as(image, first, g.key, sort, key);
     match order {
         Order::Greater => true,
         Order::Less => false,

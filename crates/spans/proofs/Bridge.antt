@@ -13,9 +13,10 @@ use Rattle.blockfile.specs.Order.{bytesBelow}
 use Rattle.blockfile.specs.Fields.{EntriesAt}
 use Rattle.laws.proofs.Numbers.{be16-agree}
 use Rattle.laws.proofs.Positions.{lens-cases, entries-after}
+use Rattle.order.specs.declared.sort.Sort.{Sort}
+use Rattle.order.specs.Sorts.{ruleAs}
 use Rattle.spans.specs.Entries.{fits, Above, lastKey, skip, keyLength, valueLength, keyOf, taken, Run}
 use Rattle.spans.proofs.Runs.{skip-cases}
-use Rattle.spans.specs.Spans.{Rule}
 
 be16-drop : (k : ℕ) (l : List ℕ) (i : ℕ) → be16 (drop k l) i ≡ be16 l (k + i)
 be16-drop k l i = be16-agree (drop k l) i l (k + i) (λ j q. getD-drop k l (i + j) 0 ∙ ap (λ (x : ℕ). getD l x 0) (sym (add-assoc k i j)))
@@ -25,7 +26,7 @@ slice-take zero n l = let e : 0 + n ≡ n = omega arith in rw e
 slice-take (suc f) n [] = let e : suc f + n ≡ suc (f + n) = omega arith in rw e (sym (take-nil n))
 slice-take (suc f) n (x ∷ l) = let e : suc f + n ≡ suc (f + n) = omega arith in rw e (slice-take f n l)
 
-module _ (rule : Rule) (st : List ℕ) (K : ℕ) (whole : length st ≡ 1016 * K) where
+module _ (sort : Sort) (st : List ℕ) (K : ℕ) (whole : length st ≡ 1016 * K) where
   lens-skip : (v : ℕ) → v ≤ length st → lensAt v ≡ v + skip (drop v st)
   lens-skip v h =
       let n : length (drop v st) + v ≡ 1016 * K = rw length-drop (omega arith) in
@@ -64,14 +65,14 @@ module _ (rule : Rule) (st : List ℕ) (K : ℕ) (whole : length st ≡ 1016 * K
     pub es : List Entry
     pub count : length es ≡ n
     pub entries : EntriesAt st v es
-    pub above : Above low es
-    pub fine : Every (λ e. T (fits rule (e .key) (length (e .value)))) es
+    pub above : Above sort low es
+    pub fine : Every (λ e. T (fits sort (e .key) (length (e .value)))) es
     pub end : entriesEnd v es ≤ length st
     pub left : t ≡ drop (entriesEnd v es) st
     pub last : hi ≡ lastKey low es
 
   -- one entry more
-  module _ (n v : ℕ) (low t hi : List ℕ) (h : v ≤ length st) (r : Run rule (drop v st) low (suc n) t hi) where
+  module _ (n v : ℕ) (low t hi : List ℕ) (h : v ≤ length st) (r : Run sort (drop v st) low (suc n) t hi) where
     room : taken (drop v st) ≤ length st - v
     room = subst (λ (x : ℕ). taken (drop v st) ≤ x) (length-drop v st) (r .0)
 
@@ -87,12 +88,12 @@ module _ (rule : Rule) (st : List ℕ) (K : ℕ) (whole : length st ≡ 1016 * K
     unfolding taken entryEnd
     end-is = omega (arith, kl, vl, lens-skip v h)
 
-    one-more : ((w : ℕ) (low t hi : List ℕ) → w ≤ length st → Run rule (drop w st) low n t hi → Listed w low n t hi) → Listed v low (suc n) t hi
+    one-more : ((w : ℕ) (low t hi : List ℕ) → w ≤ length st → Run sort (drop w st) low n t hi → Listed w low n t hi) → Listed v low (suc n) t hi
     unfolding entryEnd
     one-more ih =
         let x : Listed (entryEnd v (entryAt v)) (entryAt v .key) n t hi
         = ih (entryEnd v (entryAt v)) (entryAt v .key) t hi (omega (arith, end-is, room))
-        (subst (λ (y : ℕ). Run rule (drop y st) (keyOf (drop v st)) n t hi) end-is (rw (← drop-drop (taken (drop v st)) v st) (r .2))) in
+        (subst (λ (y : ℕ). Run sort (drop y st) (keyOf (drop v st)) n t hi) end-is (rw (← drop-drop (taken (drop v st)) v st) (r .2))) in
         record {
           es = entryAt v ∷ x .es;
           count = ap suc (x .count);
@@ -104,13 +105,13 @@ module _ (rule : Rule) (st : List ℕ) (K : ℕ) (whole : length st ≡ 1016 * K
             x .entries,
           );
           above = (r .1 .0, x .above);
-          fine = (subst (λ (y : ℕ). T (fits rule (keyOf (drop v st)) y)) (sym vl) (r .1 .1), x .fine);
+          fine = (subst (λ (y : ℕ). T (fits sort (keyOf (drop v st)) y)) (sym vl) (r .1 .1), x .fine);
           end = x .end;
           left = x .left;
           last = x .last;
         }
 
-  pub run-listed : (n v : ℕ) (low t hi : List ℕ) → v ≤ length st → Run rule (drop v st) low n t hi → Listed v low n t hi
+  pub run-listed : (n v : ℕ) (low t hi : List ℕ) → v ≤ length st → Run sort (drop v st) low n t hi → Listed v low n t hi
   run-listed zero v low t hi h r = record { es = []; count = refl; entries = tt; above = tt; fine = tt; end = h; left = sym (r .0); last = sym (r .1) }
   run-listed (suc n) v low t hi h r = one-more n v low t hi h r (run-listed n)
 
@@ -129,18 +130,18 @@ module _ (rule : Rule) (st : List ℕ) (K : ℕ) (whole : length st ≡ 1016 * K
     unfolding taken entryEnd
     to-end = omega (arith, k-is, v-is, lens-skip v h)
 
-    one-back : T (bytesBelow low (e .key)) → T (fits rule (e .key) (length (e .value)))
-        → Run rule (drop (entryEnd v e) st) (e .key) (length es) (drop (entriesEnd (entryEnd v e) es) st) (lastKey (e .key) es)
-        → Run rule (drop v st) low (suc (length es)) (drop (entriesEnd (entryEnd v e) es) st) (lastKey (e .key) es)
+    one-back : T (ruleAs sort .below low (e .key)) → T (fits sort (e .key) (length (e .value)))
+        → Run sort (drop (entryEnd v e) st) (e .key) (length es) (drop (entriesEnd (entryEnd v e) es) st) (lastKey (e .key) es)
+        → Run sort (drop v st) low (suc (length es)) (drop (entriesEnd (entryEnd v e) es) st) (lastKey (e .key) es)
     one-back b ok ih = (
       rw length-drop (omega (arith, to-end, entries-after (entryEnd v e) es, end)),
-      (subst (λ (k : List ℕ). T (bytesBelow low k)) (sym key-is) b, rw (key-is, v-is) ok),
-      subst (λ (k : List ℕ). Run rule (drop (taken (drop v st)) (drop v st)) k (length es) (drop (entriesEnd (entryEnd v e) es) st) (lastKey (e .key) es)) (sym key-is)
+      (subst (λ (k : List ℕ). T (ruleAs sort .below low k)) (sym key-is) b, rw (key-is, v-is) ok),
+      subst (λ (k : List ℕ). Run sort (drop (taken (drop v st)) (drop v st)) k (length es) (drop (entriesEnd (entryEnd v e) es) st) (lastKey (e .key) es)) (sym key-is)
           (rw (drop-drop (taken (drop v st)) v st, to-end) ih),
     )
 
-  pub listed-run : (es : List Entry) (v : ℕ) (low : List ℕ) → v ≤ length st → EntriesAt st v es → Above low es → Every (λ e. T (fits rule (e .key) (length (e .value)))) es
-      → entriesEnd v es ≤ length st → Run rule (drop v st) low (length es) (drop (entriesEnd v es) st) (lastKey low es)
+  pub listed-run : (es : List Entry) (v : ℕ) (low : List ℕ) → v ≤ length st → EntriesAt st v es → Above sort low es → Every (λ e. T (fits sort (e .key) (length (e .value)))) es
+      → entriesEnd v es ≤ length st → Run sort (drop v st) low (length es) (drop (entriesEnd v es) st) (lastKey low es)
   listed-run [] v low h a b ok c = (refl, refl)
   listed-run (e ∷ es) v low h a b ok c =
       one-back e es v low h a c (b .0) (ok .0) (listed-run es (entryEnd v e) (e .key) (omega (arith, entries-after (entryEnd v e) es, c)) (a .4) (b .1) (ok .1) c)

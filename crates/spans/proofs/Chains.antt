@@ -17,14 +17,15 @@ use Rattle.entries.proofs.Keys.{key-one}
 use Rattle.spans.specs.declared.entry.Last.{Last}
 use Rattle.spans.specs.declared.span.Spanned.{Spanned}
 use Rattle.spans.specs.declared.span.Spanned.the-variants.{Wrong, Right}
-use Rattle.spans.specs.Spans.{Rule, entriesIn}
+use Rattle.spans.specs.Spans.{entriesIn}
+use Rattle.order.specs.declared.sort.Sort.{Sort}
 use Rattle.spans.specs.Entries.{fits, lastKey, LastIs}
 use Rattle.spans.specs.Parts.{withLinks, SpanFound, Told, Answered, Verified, ChainFound}
 use Rattle.spans.proofs.Sorts.{above-join, above-left, above-right}
 use Rattle.spans.proofs.Spans.{found-fresh, found-left}
 
-abbrev pub Fine : Rule → Entry → Type 0
-Fine rule e = T (fits rule (e .key) (length (e .value)))
+abbrev pub Fine : Sort → Entry → Type 0
+Fine sort e = T (fits sort (e .key) (length (e .value)))
 
 -- the page that a chain of spans starts on
 abbrev pub startOf : List Span → ℕ
@@ -36,44 +37,44 @@ alone z prev sp ss = span (withLinks sp prev (startOf ss) z) ∷ []
 
 -- ---- a span and the spans after it
 
-module _ {rule : Rule} {img scr : List ℕ} {z p prev : ℕ} {low : List ℕ} {sp : Span} {ss : List Span} {s : List ℕ} where
-  pub chain-join : {next : ℕ} {mid : List ℕ} → SpanFound rule img scr p prev z low sp next mid → ChainFound rule img mid z next p (lastKey low (sp .entries)) ss s
-      → ChainFound rule img scr z p prev low (sp ∷ ss) s
+module _ {sort : Sort} {img scr : List ℕ} {z p prev : ℕ} {low : List ℕ} {sp : Span} {ss : List Span} {s : List ℕ} where
+  pub chain-join : {next : ℕ} {mid : List ℕ} → SpanFound sort img scr p prev z low sp next mid → ChainFound sort img mid z next p (lastKey low (sp .entries)) ss s
+      → ChainFound sort img scr z p prev low (sp ∷ ss) s
   chain-join {next} {mid} f c =
       record {
         named = f .named;
         sizes = (f .ok .size, c .sizes);
         reach = (f .ok .reach, c .reach);
-        above = above-join low (sp .entries) (entriesIn ss) (f .ok .above) (c .above);
-        fine = every-join (Fine rule) (sp .entries) (entriesIn ss) (f .ok .fine) (c .fine);
+        above = above-join sort low (sp .entries) (entriesIn ss) (f .ok .above) (c .above);
+        fine = every-join (Fine sort) (sp .entries) (entriesIn ss) (f .ok .fine) (c .fine);
         found = subst (λ (q : ℕ). Found img scr (span (withLinks sp prev (startOf ss) z) ∷ map span (linkSpans z q ss)) s) (sym (f .named))
             (subst (λ (q : ℕ). Found img scr (span (withLinks sp prev q z) ∷ map span (linkSpans z p ss)) s) (sym (c .named))
             (found-join img scr (span (withLinks sp prev next z) ∷ []) (map span (linkSpans z p ss)) mid s (f .found) (c .found)));
       }
 
   -- the first span, and the scratch after it
-  module _ (c : ChainFound rule img scr z p prev low (sp ∷ ss) s) where
-    pub chain-first : SpanFound rule img scr p prev z low sp (startOf ss) (claims scr (ownedBy (alone z prev sp ss)))
+  module _ (c : ChainFound sort img scr z p prev low (sp ∷ ss) s) where
+    pub chain-first : SpanFound sort img scr p prev z low sp (startOf ss) (claims scr (ownedBy (alone z prev sp ss)))
     chain-first =
         record {
           named = c .named;
           ok = record {
             size = c .sizes .0;
             reach = c .reach .0;
-            above = above-left low (sp .entries) (entriesIn ss) (c .above);
-            fine = every-left (Fine rule) (sp .entries) (entriesIn ss) (c .fine);
+            above = above-left sort low (sp .entries) (entriesIn ss) (c .above);
+            fine = every-left (Fine sort) (sp .entries) (entriesIn ss) (c .fine);
           };
           found = found-first img scr (alone z prev sp ss) (map span (linkSpans z (sp .page) ss)) s (c .found);
         }
 
-    pub chain-rest : ChainFound rule img (claims scr (ownedBy (alone z prev sp ss))) z (startOf ss) p (lastKey low (sp .entries)) ss s
+    pub chain-rest : ChainFound sort img (claims scr (ownedBy (alone z prev sp ss))) z (startOf ss) p (lastKey low (sp .entries)) ss s
     chain-rest =
         record {
           named = refl;
           sizes = c .sizes .1;
           reach = c .reach .1;
-          above = above-right low (sp .entries) (entriesIn ss) (c .above);
-          fine = every-right (Fine rule) (sp .entries) (entriesIn ss) (c .fine);
+          above = above-right sort low (sp .entries) (entriesIn ss) (c .above);
+          fine = every-right (Fine sort) (sp .entries) (entriesIn ss) (c .fine);
           found = subst (λ (q : ℕ). Found img (claims scr (ownedBy (alone z prev sp ss))) (map span (linkSpans z q ss)) s) (c .named)
               (found-second img scr (alone z prev sp ss) (map span (linkSpans z (sp .page) ss)) s (c .found));
         }
@@ -87,15 +88,15 @@ pub record Fell (n : ℕ) (scr s : List ℕ) : Type 0 where
   pub less : unclaimed s < unclaimed scr
   pub lent : {img : List ℕ} → Lent img scr → Lent img s
 
-module _ {rule : Rule} {img scr : List ℕ} {z p prev : ℕ} {low : List ℕ} {a : Spanned} {s : List ℕ} (v : Verified rule img scr p prev z low a s) where
+module _ {sort : Sort} {img scr : List ℕ} {z p prev : ℕ} {low : List ℕ} {a : Spanned} {s : List ℕ} (v : Verified sort img scr p prev z low a s) where
   -- a chain that starts with a span starts where the answer is right, and goes on as the answer says
-  pub chain-not : a ≡ Wrong → {sp : Span} {ss : List Span} {t : List ℕ} → ChainFound rule img scr z p prev low (sp ∷ ss) t → ⊥
+  pub chain-not : a ≡ Wrong → {sp : Span} {ss : List Span} {t : List ℕ} → ChainFound sort img scr z p prev low (sp ∷ ss) t → ⊥
   chain-not e {sp} {ss} c =
-      let d : Answered img low sp (startOf ss) (claims scr (ownedBy (alone z prev sp ss))) a s = v .complete sp (startOf ss) (claims scr (ownedBy (alone z prev sp ss))) (chain-first c) in
+      let d : Answered sort img low sp (startOf ss) (claims scr (ownedBy (alone z prev sp ss))) a s = v .complete sp (startOf ss) (claims scr (ownedBy (alone z prev sp ss))) (chain-first c) in
       let q : _≡_ {A = ℕ} 0 1 = cc (d .is, e) in omega arith
 
   module _ {n next : ℕ} {l : Last} (e : a ≡ Right n next l) where
-    pub told : Told rule img scr p prev z low n next l s
+    pub told : Told sort img scr p prev z low n next l s
     told = v .sound n next l e
 
     abbrev pub hi : List ℕ
@@ -104,24 +105,24 @@ module _ {rule : Rule} {img scr : List ℕ} {z p prev : ℕ} {low : List ℕ} {a
     -- a chain from here
     pub record Onward (sp : Span) (ss : List Span) (t : List ℕ) : Type 0 where
       pub count : n ≡ length (sp .entries)
-      pub chain : ChainFound rule img s z next p hi ss t
+      pub chain : ChainFound sort img s z next p hi ss t
 
-    pub onward : {sp : Span} {ss : List Span} {t : List ℕ} → ChainFound rule img scr z p prev low (sp ∷ ss) t → Onward sp ss t
+    pub onward : {sp : Span} {ss : List Span} {t : List ℕ} → ChainFound sort img scr z p prev low (sp ∷ ss) t → Onward sp ss t
     onward {sp} {ss} {t} c =
-        let d : Answered img low sp (startOf ss) (claims scr (ownedBy (alone z prev sp ss))) a s = v .complete sp (startOf ss) (claims scr (ownedBy (alone z prev sp ss))) (chain-first c) in
+        let d : Answered sort img low sp (startOf ss) (claims scr (ownedBy (alone z prev sp ss))) a s = v .complete sp (startOf ss) (claims scr (ownedBy (alone z prev sp ss))) (chain-first c) in
         let last : d .last ≡ l = cc (d .is, e) in
-        let there : LastIs img l (lastKey low (sp .entries)) = subst (λ (k : Last). LastIs img k (lastKey low (sp .entries))) last (d .key) in
+        let there : LastIs sort img l (lastKey low (sp .entries)) = subst (λ (k : Last). LastIs sort img k (lastKey low (sp .entries))) last (d .key) in
         let same : lastKey low (sp .entries) ≡ hi = key-one img (l .at) (l .length) (lastKey low (sp .entries)) hi (there .there) (told .key .there) in
         record {
           count = cc (d .is, e);
-          chain = subst (λ (k : List ℕ). ChainFound rule img s z next p k ss t) same
-              (subst (λ (q : ℕ). ChainFound rule img s z q p (lastKey low (sp .entries)) ss t) (cc (d .is, e))
-              (subst (λ (m : List ℕ). ChainFound rule img m z (startOf ss) p (lastKey low (sp .entries)) ss t) (sym (d .left)) (chain-rest c)));
+          chain = subst (λ (k : List ℕ). ChainFound sort img s z next p k ss t) same
+              (subst (λ (q : ℕ). ChainFound sort img s z q p (lastKey low (sp .entries)) ss t) (cc (d .is, e))
+              (subst (λ (m : List ℕ). ChainFound sort img m z (startOf ss) p (lastKey low (sp .entries)) ss t) (sym (d .left)) (chain-rest c)));
         }
 
     pub fell : z ≤ 128 → Fell n scr s
     fell h =
-        let t : Told rule img scr p prev z low n next l s = told in
+        let t : Told sort img scr p prev z low n next l s = told in
         let pages : List ℕ = t .sp .page ∷ t .sp .conts in
         let left : s ≡ claims scr pages = found-left (t .found .found) in
         record {

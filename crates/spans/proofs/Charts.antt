@@ -14,9 +14,9 @@ use Rattle.entries.specs.Places.{Rest, Enough, Moved}
 use Rattle.entries.proofs.Rests.{rest-one, rest-in, rest-next}
 use Rattle.spans.specs.declared.entry.Last.{Last}
 use Rattle.spans.specs.declared.entry.Entered.the-variants.{Read}
+use Rattle.order.specs.declared.sort.Sort.{Sort}
 use Rattle.spans.specs.Entries.{taken, keyOf, Run, LastIs, Ended, Entering}
 use Rattle.spans.specs.Charts.{along, Charted, Noted, Paged, Spread}
-use Rattle.spans.specs.Spans.{Rule}
 
 -- ---- Filled, page after page
 
@@ -76,17 +76,17 @@ module _ {img chart : List ℕ} {more : ℕ} {at : Place} {left : ℕ} (s : Spre
   pub spread-on : {k : ℕ} → k ≤ left → {p : Place} → Moved img at k p → {rest : ℕ} → rest ≡ left - k → Spread img chart more p rest
   spread-on {k} h m e = spread-to k h (m .to (s .bytes) (s .rest)) e
 
-  pub spread-entered : {rule : Rule} {l : Last} {low : List ℕ} → LastIs img l low → {n : ℕ} {p : Place} {rest : ℕ} {last : Last}
-      → Entering rule img at l n (Read p rest last) → Spread img chart more p rest
-  spread-entered {rule} {l} {low} key {n} {p} {rest} {last} e =
-      let d : Ended rule img (s .bytes) low n p rest last = e .is (s .bytes) low (s .rest) key in
-      let k : (k : ℕ) × (k ≤ length (s .bytes)) × (d .bytes ≡ drop k (s .bytes)) = run-drop rule n (s .bytes) low (d .bytes) (d .hi) (d .run) in
+  pub spread-entered : {sort : Sort} {l : Last} {low : List ℕ} → LastIs sort img l low → {n : ℕ} {p : Place} {rest : ℕ} {last : Last}
+      → Entering sort img at l n (Read p rest last) → Spread img chart more p rest
+  spread-entered {sort} {l} {low} key {n} {p} {rest} {last} e =
+      let d : Ended sort img (s .bytes) low n p rest last = e .is (s .bytes) low (s .rest) key in
+      let k : (k : ℕ) × (k ≤ length (s .bytes)) × (d .bytes ≡ drop k (s .bytes)) = run-drop sort n (s .bytes) low (d .bytes) (d .hi) (d .run) in
       spread-to (k .0) (omega (arith, k .1, s .long)) (subst (Rest img p) (k .2) (d .rest)) (omega (arith, d .long, ap length (k .2), length-drop (k .0) (s .bytes), s .long))
     where
-      run-drop : (rule : Rule) (n : ℕ) (s low t hi : List ℕ) → Run rule s low n t hi → (k : ℕ) × (k ≤ length s) × (t ≡ drop k s)
-      run-drop rule zero s low t hi r = (0, omega arith, sym (r .0))
-      run-drop rule (suc n) s low t hi r =
-          let k = run-drop rule n (drop (taken s) s) (keyOf s) t hi (r .2) in
+      run-drop : (sort : Sort) (n : ℕ) (s low t hi : List ℕ) → Run sort s low n t hi → (k : ℕ) × (k ≤ length s) × (t ≡ drop k s)
+      run-drop sort zero s low t hi r = (0, omega arith, sym (r .0))
+      run-drop sort (suc n) s low t hi r =
+          let k = run-drop sort n (drop (taken s) s) (keyOf s) t hi (r .2) in
           (taken s + k .0, omega (arith, k .1, r .0, length-drop (taken s) s), k .2 ∙ drop-drop (k .0) (taken s) s)
 
   -- ---- Found by the chart

@@ -21,11 +21,11 @@ use Rattle.spans.specs.declared.entry.Entered.{Entered}
 use Rattle.spans.specs.declared.entry.Entered.the-variants.{Bad, Read}
 use Rattle.spans.specs.declared.span.Spanned.{Spanned}
 use Rattle.spans.specs.declared.span.Spanned.the-variants.{Wrong, Right}
+use Rattle.order.specs.declared.sort.Sort.{Sort}
 use Rattle.spans.specs.Entries.{lastKey, taken, keyOf, Run, LastIs, Ready, Ended, Ends, Entering}
 use Rattle.spans.specs.Charts.{Charted, Spread}
 use Rattle.spans.specs.Parts.{spanOn, SpanIs, ReadySpan, SpanSays, Reading}
 use Rattle.spans.proofs.Bridge.{Listed, run-listed, listed-run}
-use Rattle.spans.specs.Spans.{Rule}
 
 -- entries that end at e reach 1 + m pages
 pages-by : (e m : ℕ) → 1016 * m < e → e ≤ 1016 * (1 + m) → 1 + m ≡ (e + 1015) / 1016
@@ -34,11 +34,11 @@ pages-by e m h k = omega arith
 pages-of : (e m : ℕ) → 1 + m ≡ (e + 1015) / 1016 → (1016 * m < e) × (e ≤ 1016 * (1 + m))
 pages-of e m h = (omega arith, omega arith)
 
-run-one : (rule : Rule) (n : ℕ) (s low t hi u ho : List ℕ) → Run rule s low n t hi → Run rule s low n u ho → t ≡ u
-run-one rule zero s low t hi u ho a b = sym (a .0) ∙ b .0
-run-one rule (suc n) s low t hi u ho a b = run-one rule n (drop (taken s) s) (keyOf s) t hi u ho (a .2) (b .2)
+run-one : (sort : Sort) (n : ℕ) (s low t hi u ho : List ℕ) → Run sort s low n t hi → Run sort s low n u ho → t ≡ u
+run-one sort zero s low t hi u ho a b = sym (a .0) ∙ b .0
+run-one sort (suc n) s low t hi u ho a b = run-one sort n (drop (taken s) s) (keyOf s) t hi u ho (a .2) (b .2)
 
-module _ {img : List ℕ} {p more : ℕ} {l : Last} (r : ReadySpan img p more l) where
+module _ {sort : Sort} {img : List ℕ} {p more : ℕ} {l : Last} (r : ReadySpan sort img p more l) where
   abbrev st : List ℕ
   st = streamOf img (p ∷ r .conts)
 
@@ -61,7 +61,7 @@ module _ {img : List ℕ} {p more : ℕ} {l : Last} (r : ReadySpan img p more l)
       })
       12 (omega arith)
 
-  pub span-ready : Ready img (record { page = p; offset = 20 }) (1004 + 1016 * more) l
+  pub span-ready : Ready sort img (record { page = p; offset = 20 }) (1004 + 1016 * more) l
   span-ready = record { bytes = drop 12 st; rest = from-20; long = rw length-drop (omega (arith, whole, r .long)); low = r .low; key = r .key }
 
   -- its fields are in its head
@@ -99,67 +99,67 @@ module _ {img : List ℕ} {p more : ℕ} {l : Last} (r : ReadySpan img p more l)
         charted = c;
       }
 
-  module _ (rule : Rule) (prev z : ℕ) where
+  module _ (prev z : ℕ) where
     -- what is shown of these continuation pages and this last key is shown of all
-    all-of : (a : Spanned) → SpanSays rule img p (r .conts) prev z (r .low) a → Reading rule img p prev z l a
+    all-of : (a : Spanned) → SpanSays sort img p (r .conts) prev z (r .low) a → Reading sort img p prev z l a
     all-of a x = record {
       is = λ conts low c k.
-          subst (λ (y : List ℕ). SpanSays rule img p conts prev z y a) (key-one img (l .at) (l .length) (r .low) low (r .key .there) (k .there))
-          (subst (λ (y : List ℕ). SpanSays rule img p y prev z (r .low) a)
+          subst (λ (y : List ℕ). SpanSays sort img p conts prev z y a) (key-one img (l .at) (l .length) (r .low) low (r .key .there) (k .there))
+          (subst (λ (y : List ℕ). SpanSays sort img p y prev z (r .low) a)
           (conts-one img (r .conts) conts (r .pages .inside) (c .inside) (sym (r .pages .linked) ∙ c .linked) (r .pages .are) (c .are)) x);
     }
 
-    pub read-other : {g : ℕ} → Number (be32 (pg img p) 8) 4294967296 g → (g ≡ prev → ⊥) → Reading rule img p prev z l Wrong
+    pub read-other : {g : ℕ} → Number (be32 (pg img p) 8) 4294967296 g → (g ≡ prev → ⊥) → Reading sort img p prev z l Wrong
     read-other g n = all-of Wrong (λ es next b. n (g .is ∙ b .bears .prev))
 
-    pub read-max : {m : ℕ} → Number (be16 (pg img p) 16) 65536 m → (m ≡ z → ⊥) → Reading rule img p prev z l Wrong
+    pub read-max : {m : ℕ} → Number (be16 (pg img p) 16) 65536 m → (m ≡ z → ⊥) → Reading sort img p prev z l Wrong
     read-max m n = all-of Wrong (λ es next b. n (m .is ∙ b .bears .maxKeys))
 
     module _ {n : ℕ} (e : Number (be16 (pg img p) 18) 65536 n) where
-      pub read-over : z < n → Reading rule img p prev z l Wrong
+      pub read-over : z < n → Reading sort img p prev z l Wrong
       read-over h = all-of Wrong (λ es next b. omega (arith, e .is, b .bears .size, b .ok .size))
 
       -- the run that the entries of a span are, and where it ends
       record Ran (es : List Entry) : Type 0 where
-        run : Run rule (drop 12 st) (r .low) n (drop (entriesEnd 12 es) st) (lastKey (r .low) es)
+        run : Run sort (drop 12 st) (r .low) n (drop (entriesEnd 12 es) st) (lastKey (r .low) es)
         after : 1016 * length (r .conts) < entriesEnd 12 es
         inside : entriesEnd 12 es ≤ length st
 
-      ran : (es : List Entry) (next : ℕ) → SpanIs rule img prev z (r .low) (spanOn p (r .conts) es) next → Ran es
+      ran : (es : List Entry) (next : ℕ) → SpanIs sort img prev z (r .low) (spanOn p (r .conts) es) next → Ran es
       unfolding reached
       ran es next b =
           let w : (1016 * length (r .conts) < entriesEnd 12 es) × (entriesEnd 12 es ≤ 1016 * (1 + length (r .conts))) = pages-of (entriesEnd 12 es) (length (r .conts)) (b .ok .reach) in
           let end : entriesEnd 12 es ≤ length st = omega (arith, whole, w .1) in
           record {
-            run = subst (λ (y : ℕ). Run rule (drop 12 st) (r .low) y (drop (entriesEnd 12 es) st) (lastKey (r .low) es)) (sym (b .bears .size) ∙ sym (e .is))
-                (listed-run rule st (1 + length (r .conts)) whole es 12 (r .low) (omega (arith, whole)) (b .bears .entries) (b .ok .above) (b .ok .fine) end);
+            run = subst (λ (y : ℕ). Run sort (drop 12 st) (r .low) y (drop (entriesEnd 12 es) st) (lastKey (r .low) es)) (sym (b .bears .size) ∙ sym (e .is))
+                (listed-run sort st (1 + length (r .conts)) whole es 12 (r .low) (omega (arith, whole)) (b .bears .entries) (b .ok .above) (b .ok .fine) end);
             after = w .0;
             inside = end;
           }
 
-      module _ {a : Entered} (x : Entering rule img (record { page = p; offset = 20 }) l n a) where
-        told : (b : Entered) → a ≡ b → Ends rule img (drop 12 st) (r .low) n b
-        told b f = subst (Ends rule img (drop 12 st) (r .low) n) f (x .is (drop 12 st) (r .low) from-20 (r .key))
+      module _ {a : Entered} (x : Entering sort img (record { page = p; offset = 20 }) l n a) where
+        told : (b : Entered) → a ≡ b → Ends sort img (drop 12 st) (r .low) n b
+        told b f = subst (Ends sort img (drop 12 st) (r .low) n) f (x .is (drop 12 st) (r .low) from-20 (r .key))
 
-        pub read-bad : a ≡ Bad → Reading rule img p prev z l Wrong
+        pub read-bad : a ≡ Bad → Reading sort img p prev z l Wrong
         read-bad f = all-of Wrong (λ es next b. told Bad f (drop (entriesEnd 12 es) st) (lastKey (r .low) es) (ran es next b .run))
 
         module _ {at : Place} {left : ℕ} {k : Last} (f : a ≡ Read at left k) where
-          d : Ended rule img (drop 12 st) (r .low) n at left k
+          d : Ended sort img (drop 12 st) (r .low) n at left k
           d = told (Read at left k) f
 
-          pub read-spare : 1016 ≤ left → Reading rule img p prev z l Wrong
+          pub read-spare : 1016 ≤ left → Reading sort img p prev z l Wrong
           read-spare h = all-of Wrong (λ es next b.
               let y : Ran es = ran es next b in
-              let q : d .bytes ≡ drop (entriesEnd 12 es) st = run-one rule n (drop 12 st) (r .low) (d .bytes) (d .hi) (drop (entriesEnd 12 es) st) (lastKey (r .low) es) (d .run) (y .run) in
+              let q : d .bytes ≡ drop (entriesEnd 12 es) st = run-one sort n (drop 12 st) (r .low) (d .bytes) (d .hi) (drop (entriesEnd 12 es) st) (lastKey (r .low) es) (d .run) (y .run) in
               omega (arith, ap length q, length-drop (entriesEnd 12 es) st, whole, d .long, y .after, y .inside))
 
           pub read-done : left < 1016 → n ≤ z → {m : ℕ} → Number (be16 (pg img p) 16) 65536 m → m ≡ z → {g : ℕ} → Number (be32 (pg img p) 8) 4294967296 g → g ≡ prev
-              → {next : ℕ} → Number (be32 (pg img p) 12) 4294967296 next → Reading rule img p prev z l (Right n next k)
+              → {next : ℕ} → Number (be32 (pg img p) 12) 4294967296 next → Reading sort img p prev z l (Right n next k)
           unfolding reached
           read-done h most {m} mi mz {g} gi gp {next} ni =
-              let y : Listed rule st (1 + length (r .conts)) whole 12 (r .low) n (d .bytes) (d .hi)
-              = run-listed rule st (1 + length (r .conts)) whole n 12 (r .low) (d .bytes) (d .hi) (omega (arith, whole)) (d .run) in
+              let y : Listed sort st (1 + length (r .conts)) whole 12 (r .low) n (d .bytes) (d .hi)
+              = run-listed sort st (1 + length (r .conts)) whole n 12 (r .low) (d .bytes) (d .hi) (omega (arith, whole)) (d .run) in
               all-of (Right n next k) (record {
                 entries = y .es;
                 is = record {
@@ -182,5 +182,5 @@ module _ {img : List ℕ} {p more : ℕ} {l : Last} (r : ReadySpan img p more l)
                   };
                 };
                 count = sym (y .count);
-                key = subst (LastIs img k) (y .last) (d .key);
+                key = subst (LastIs sort img k) (y .last) (d .key);
               })

@@ -1,85 +1,71 @@
 -- Keys that rise from one to the next rise through the whole table; and what the rules say of an entry.
 use Prim.Native.Nat.{ℕ, _≤_}
 use native.Mathlib.Omega.{arith}
-use mathlib.Core.Path.{_≡_, refl, sym, subst}
-use mathlib.Core.Bool.{Bool}
+use mathlib.Core.Path.{_≡_}
 use mathlib.Core.List.{List, [], _∷_, _++_}
 use lib.ListN.{length}
-use lib.Dec.{T, eqb→eq, leb→le}
+use lib.Dec.{T, leb, le→leb, leb→le, eqb→eq}
 use Rattle.blockfile.specs.Bytes.{Every}
 use Rattle.blockfile.specs.Layout.{Entry}
-use Rattle.blockfile.specs.Order.{nameRule, keyRule, bytesBelow, Rising}
-use Rattle.blockfile.proofs.Bools.{and-both, both-and}
+use Rattle.blockfile.specs.Order.{Rising}
+use Rattle.blockfile.proofs.Bools.{and-both, both-and, within-is}
 use Rattle.blockfile.proofs.Every.{every-so}
-use Rattle.laws.proofs.Orders.{keys-ordered}
-use Rattle.spans.specs.Spans.{Rule, Names, Keys, ruleOf, sized}
+use Rattle.order.specs.declared.sort.Sort.{Sort}
+use Rattle.order.specs.declared.sort.Sort.the-variants.{Bytes, Numbers}
+use Rattle.order.specs.Sorts.{ruleAs}
+use Rattle.order.proofs.Sorts.{sort-ordered, below-some}
 use Rattle.spans.specs.Entries.{fits, Above, lastKey}
 
--- ---- from above a key on
+module _ (sort : Sort) where
+  -- ---- from above a key on
 
-pub above-join : (low : List ℕ) (xs ys : List Entry) → Above low xs → Above (lastKey low xs) ys → Above low (xs ++ ys)
-above-join low [] ys a b = b
-above-join low (x ∷ xs) ys a b = (a .0, above-join (x .key) xs ys (a .1) b)
+  pub above-join : (low : List ℕ) (xs ys : List Entry) → Above sort low xs → Above sort (lastKey low xs) ys → Above sort low (xs ++ ys)
+  above-join low [] ys a b = b
+  above-join low (x ∷ xs) ys a b = (a .0, above-join (x .key) xs ys (a .1) b)
 
-pub above-left : (low : List ℕ) (xs ys : List Entry) → Above low (xs ++ ys) → Above low xs
-above-left low [] ys a = tt
-above-left low (x ∷ xs) ys a = (a .0, above-left (x .key) xs ys (a .1))
+  pub above-left : (low : List ℕ) (xs ys : List Entry) → Above sort low (xs ++ ys) → Above sort low xs
+  above-left low [] ys a = tt
+  above-left low (x ∷ xs) ys a = (a .0, above-left (x .key) xs ys (a .1))
 
-pub above-right : (low : List ℕ) (xs ys : List Entry) → Above low (xs ++ ys) → Above (lastKey low xs) ys
-above-right low [] ys a = a
-above-right low (x ∷ xs) ys a = above-right (x .key) xs ys (a .1)
+  pub above-right : (low : List ℕ) (xs ys : List Entry) → Above sort low (xs ++ ys) → Above sort (lastKey low xs) ys
+  above-right low [] ys a = a
+  above-right low (x ∷ xs) ys a = above-right (x .key) xs ys (a .1)
 
--- ---- the rules' order is by bytes
+  -- ---- through the whole table
 
-below-is : (rule : Rule) → ruleOf rule .below ≡ bytesBelow
-unfolding nameRule keyRule
-below-is Names = refl
-below-is Keys = refl
+  above-all : (low : List ℕ) (es : List Entry) → Above sort low es → Every (λ y. T (ruleAs sort .below low (y .key))) es
+  above-all low [] a = tt
+  above-all low (e ∷ es) a =
+      (a .0, every-so (λ y. T (ruleAs sort .below (e .key) (y .key))) (λ y. sort-ordered sort .trans low (e .key) (y .key) (a .0)) es (above-all (e .key) es (a .1)))
 
-trans : (a b c : List ℕ) → T (bytesBelow a b) → T (bytesBelow b c) → T (bytesBelow a c)
-unfolding keyRule
-trans = keys-ordered [] .trans
-
-above-all : (low : List ℕ) (es : List Entry) → Above low es → Every (λ y. T (bytesBelow low (y .key))) es
-above-all low [] a = tt
-above-all low (e ∷ es) a = (a .0, every-so (λ y. T (bytesBelow (e .key) (y .key))) (λ y. trans low (e .key) (y .key) (a .0)) es (above-all (e .key) es (a .1)))
-
-module _ (rule : Rule) where
-  abbrev BelowAll : (List ℕ → List ℕ → Bool) → List ℕ → List Entry → Type 0
-  BelowAll below k es = Every (λ y. T (below k (y .key))) es
-
-  pub above-rising : (low : List ℕ) (es : List Entry) → Above low es → Rising (ruleOf rule) es
+  pub above-rising : (low : List ℕ) (es : List Entry) → Above sort low es → Rising (ruleAs sort) es
   above-rising low [] a = tt
-  above-rising low (e ∷ es) a =
-      (subst (λ (b : List ℕ → List ℕ → Bool). BelowAll b (e .key) es) (sym (below-is rule)) (above-all (e .key) es (a .1)), above-rising (e .key) es (a .1))
+  above-rising low (e ∷ es) a = (above-all (e .key) es (a .1), above-rising (e .key) es (a .1))
 
-  rising-above : (low : List ℕ) (es : List Entry) → BelowAll bytesBelow low es → Rising (ruleOf rule) es → Above low es
+  rising-above : (low : List ℕ) (es : List Entry) → Every (λ y. T (ruleAs sort .below low (y .key))) es → Rising (ruleAs sort) es → Above sort low es
   rising-above low [] h r = tt
-  rising-above low (e ∷ es) h r = (h .0, rising-above (e .key) es (subst (λ (b : List ℕ → List ℕ → Bool). BelowAll b (e .key) es) (below-is rule) (r .0)) (r .1))
+  rising-above low (e ∷ es) h r = (h .0, rising-above (e .key) es (r .0) (r .1))
 
   -- ---- an entry's key and value
 
-  pub fits-key : (k : List ℕ) (v : ℕ) → T (fits rule k v) → T (ruleOf rule .allowed k)
-  fits-key k v h = and-both (sized rule v) (ruleOf rule .allowed k) h .1
+  pub fits-key : (k : List ℕ) (v : ℕ) → T (fits sort k v) → T (ruleAs sort .allowed k)
+  fits-key k v h = and-both (leb v 65535) (ruleAs sort .allowed k) h .1
 
-  pub fits-value : (k : List ℕ) (v : ℕ) → T (fits rule k v) → T (sized rule v)
-  fits-value k v h = and-both (sized rule v) (ruleOf rule .allowed k) h .0
+  pub fits-value : (k : List ℕ) (v : ℕ) → T (fits sort k v) → v ≤ 65535
+  fits-value k v h = leb→le v 65535 (and-both (leb v 65535) (ruleAs sort .allowed k) h .0)
 
-  pub every-fits : (es : List Entry) → Every (λ e. T (ruleOf rule .allowed (e .key))) es → Every (λ e. T (sized rule (length (e .value)))) es → Every (λ e. T (fits rule (e .key) (length (e .value)))) es
+  pub both-fit : (k : List ℕ) (v : ℕ) → T (ruleAs sort .allowed k) → v ≤ 65535 → T (fits sort k v)
+  both-fit k v a b = both-and (leb v 65535) (ruleAs sort .allowed k) (le→leb v 65535 b) a
+
+  pub every-fits : (es : List Entry) → Every (λ e. T (ruleAs sort .allowed (e .key))) es → Every (λ e. length (e .value) ≤ 65535) es
+      → Every (λ e. T (fits sort (e .key) (length (e .value)))) es
   every-fits [] a b = tt
-  every-fits (e ∷ es) a b = (both-and (sized rule (length (e .value))) (ruleOf rule .allowed (e .key)) (b .0) (a .0), every-fits es (a .1) (b .1))
+  every-fits (e ∷ es) a b = (both-fit (e .key) (length (e .value)) (a .0) (b .0), every-fits es (a .1) (b .1))
 
-pub sized-most : (rule : Rule) (n : ℕ) → T (sized rule n) → n ≤ 65535
-sized-most Names n h = omega (arith, eqb→eq n 4 h)
-sized-most Keys n h = leb→le n 65535 h
+-- an allowed key is not empty
+allowed-long : (sort : Sort) (k : List ℕ) → T (ruleAs sort .allowed k) → 1 ≤ length k
+allowed-long Bytes k h = within-is 1 65535 (length k) h .0
+allowed-long Numbers k h = let e : length k ≡ 4 = eqb→eq (length k) 4 h in omega arith
 
--- an allowed key is not empty: it is above the empty key
-pub allowed-some : (rule : Rule) (k : List ℕ) → T (ruleOf rule .allowed k) → T (bytesBelow [] k)
-unfolding nameRule keyRule
-allowed-some Names [] h = absurd h
-allowed-some Names (x ∷ k) h = tt
-allowed-some Keys [] h = absurd h
-allowed-some Keys (x ∷ k) h = tt
-
-pub rising-all : (rule : Rule) (es : List Entry) → Every (λ e. T (ruleOf rule .allowed (e .key))) es → Rising (ruleOf rule) es → Above [] es
-rising-all rule es a r = rising-above rule [] es (every-so (λ e. T (ruleOf rule .allowed (e .key))) (λ e. allowed-some rule (e .key)) es a) r
+pub rising-all : (sort : Sort) (es : List Entry) → Every (λ e. T (ruleAs sort .allowed (e .key))) es → Rising (ruleAs sort) es → Above sort [] es
+rising-all sort es a r = rising-above sort [] es (every-so (λ e. T (ruleAs sort .allowed (e .key))) (λ e h. below-some sort (e .key) (allowed-long sort (e .key) h)) es a) r

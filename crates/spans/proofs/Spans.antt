@@ -18,10 +18,10 @@ use Rattle.spans.specs.declared.claims.Claims.the-variants.{Refused, Hel
 use Rattle.spans.specs.declared.entry.Last.{Last}
 use Rattle.spans.specs.declared.span.Spanned.{Spanned}
 use Rattle.spans.specs.declared.span.Spanned.the-variants.{Wrong, Right}
+use Rattle.order.specs.declared.sort.Sort.{Sort}
 use Rattle.spans.specs.Entries.{lastKey, LastIs, Met}
 use Rattle.spans.specs.Parts.{held, PagesFound, SpanPages, withLinks, spanOn, SpanIs, ReadySpan, SpanSays, SpanRight, Reading, SpanFound, Answered, VerifiedAll}
 use Rattle.spans.proofs.PageClaims.{inside-fresh}
-use Rattle.spans.specs.Spans.{Rule}
 
 -- ---- one piece
 
@@ -52,19 +52,19 @@ entries-one st v (e ∷ es) (f ∷ fs) a b n =
     ap₂ (λ (x : Entry) (xs : List Entry). x ∷ xs) (λ i. record { key = k i; value = w i })
     (entries-one st (entryEnd v e) es fs (a .4) (subst (λ (x : ℕ). EntriesAt st x fs) (sym end) (b .4)) (omega arith))
 
-span-one : {rule : Rule} {img : List ℕ} {p : ℕ} {conts : List ℕ} {prev z : ℕ} {low : List ℕ} {es fs : List Entry} {next other : ℕ}
-    → SpanIs rule img prev z low (spanOn p conts es) next → SpanIs rule img prev z low (spanOn p conts fs) other → (es ≡ fs) × (next ≡ other)
+span-one : {sort : Sort} {img : List ℕ} {p : ℕ} {conts : List ℕ} {prev z : ℕ} {low : List ℕ} {es fs : List Entry} {next other : ℕ}
+    → SpanIs sort img prev z low (spanOn p conts es) next → SpanIs sort img prev z low (spanOn p conts fs) other → (es ≡ fs) × (next ≡ other)
 span-one {img = img} {p} {conts} {es = es} {fs} a b =
     (entries-one (streamOf img (p ∷ conts)) 12 es fs (a .bears .entries) (b .bears .entries) (sym (a .bears .size) ∙ b .bears .size), sym (a .bears .next) ∙ b .bears .next)
 
 -- ---- the pages of a span that is found
 
-module _ {rule : Rule} {img scr : List ℕ} {prev z : ℕ} {low : List ℕ} {sp : Span} {next : ℕ} {t : List ℕ} where
+module _ {sort : Sort} {img scr : List ℕ} {prev z : ℕ} {low : List ℕ} {sp : Span} {next : ℕ} {t : List ℕ} where
   -- its page is the one it is asked for on
-  at-page : {p : ℕ} → SpanFound rule img scr p prev z low sp next t → SpanFound rule img scr (sp .page) prev z low sp next t
+  at-page : {p : ℕ} → SpanFound sort img scr p prev z low sp next t → SpanFound sort img scr (sp .page) prev z low sp next t
   at-page f = record { named = refl; ok = f .ok; found = f .found }
 
-  pages-found : SpanFound rule img scr (sp .page) prev z low sp next t → PagesFound img scr (sp .page) (length (sp .conts)) t
+  pages-found : SpanFound sort img scr (sp .page) prev z low sp next t → PagesFound img scr (sp .page) (length (sp .conts)) t
   pages-found f =
       let b : Bears (pg img) (span (withLinks sp prev next z)) = f .found .bears .0 in
       record { conts = sp .conts; marked = b .mark; linked = b .cont; are = b .conts; fresh = found-fresh (f .found); long = refl; left = found-left (f .found) }
@@ -75,7 +75,7 @@ pages-of {img} {scr} {p} lent x =
     record { small = omega (arith, lent .room .size, lent .room .most); page = all .0; marked = x .marked; linked = x .linked; are = x .are; inside = all .1 }
 
 module _ {img scr : List ℕ} {p : ℕ} (lent : Lent img scr) {a : Claims} {s : List ℕ} (f : FindsAt held (PagesFound img scr p) a s) where
-  pub verify-ready : {m : ℕ} → a ≡ Held m → {l : Last} → Met img l → ReadySpan img p m l
+  pub verify-ready : {m : ℕ} → a ≡ Held m → {sort : Sort} {l : Last} → Met sort img l → ReadySpan sort img p m l
   verify-ready {m} e k =
       let y : PagesFound img scr p m s = f .sound m e in
       record {
@@ -91,20 +91,20 @@ module _ {img scr : List ℕ} {p : ℕ} (lent : Lent img scr) {a : Claims} {s : 
   pub verify-lent : {m : ℕ} → a ≡ Held m → Lent img s
   verify-lent {m} e = let y : PagesFound img scr p m s = f .sound m e in subst (Lent img) (sym (y .left)) (lent-claims (p ∷ y .conts) (y .fresh) lent)
 
-  module _ {rule : Rule} {prev z : ℕ} where
+  module _ {sort : Sort} {prev z : ℕ} where
     -- the span is on page p
-    module _ {low : List ℕ} {sp : Span} {next : ℕ} {t : List ℕ} (x : SpanFound rule img scr p prev z low sp next t) where
+    module _ {low : List ℕ} {sp : Span} {next : ℕ} {t : List ℕ} (x : SpanFound sort img scr p prev z low sp next t) where
       on-p : PagesFound img scr p (length (sp .conts)) t
       on-p = subst (λ (q : ℕ). PagesFound img scr q (length (sp .conts)) t) (x .named) (pages-found (at-page x))
 
-      is-p : SpanIs rule img prev z low (spanOn p (sp .conts) (sp .entries)) next
-      is-p = subst (λ (q : ℕ). SpanIs rule img prev z low (spanOn q (sp .conts) (sp .entries)) next) (x .named) (record { bears = x .found .bears .0; ok = x .ok })
+      is-p : SpanIs sort img prev z low (spanOn p (sp .conts) (sp .entries)) next
+      is-p = subst (λ (q : ℕ). SpanIs sort img prev z low (spanOn q (sp .conts) (sp .entries)) next) (x .named) (record { bears = x .found .bears .0; ok = x .ok })
 
       pages-p : SpanPages img p (sp .conts)
       unfolding pages-found
       pages-p = subst (λ (q : ℕ). SpanPages img q (sp .conts)) (x .named) (pages-of lent (pages-found (at-page x)))
 
-    pub verify-no : {l : Last} → a ≡ Refused → VerifiedAll rule img scr p prev z l Wrong s
+    pub verify-no : {l : Last} → a ≡ Refused → VerifiedAll sort img scr p prev z l Wrong s
     verify-no e = record {
       is = λ low k. record {
         sound = λ n next h q. absurd (let y : _≡_ {A = ℕ} 0 1 = cc in omega arith);
@@ -114,12 +114,12 @@ module _ {img scr : List ℕ} {p : ℕ} (lent : Lent img scr) {a : Claims} {s : 
       };
     }
 
-    pub verify-done : {m : ℕ} → a ≡ Held m → {l : Last} {r : Spanned} → Reading rule img p prev z l r → VerifiedAll rule img scr p prev z l r s
+    pub verify-done : {m : ℕ} → a ≡ Held m → {l : Last} {r : Spanned} → Reading sort img p prev z l r → VerifiedAll sort img scr p prev z l r s
     verify-done {m} e {r = r} x = record {
       is = λ low k. record {
         sound = λ n next h q.
             let y : PagesFound img scr p m s = f .sound m e in
-            let w : SpanRight rule img p (y .conts) prev z low n next h = subst (SpanSays rule img p (y .conts) prev z low) q (x .is (y .conts) low (pages-of lent y) k) in
+            let w : SpanRight sort img p (y .conts) prev z low n next h = subst (SpanSays sort img p (y .conts) prev z low) q (x .is (y .conts) low (pages-of lent y) k) in
             record {
               sp = spanOn p (y .conts) (w .entries);
               found = record {
@@ -134,10 +134,10 @@ module _ {img scr : List ℕ} {p : ℕ} (lent : Lent img scr) {a : Claims} {s : 
       };
     }
       where
-        go : (low : List ℕ) (sp : Span) (next : ℕ) (t : List ℕ) → SpanIs rule img prev z low (spanOn p (sp .conts) (sp .entries)) next
-            → (r : Spanned) → SpanSays rule img p (sp .conts) prev z low r → s ≡ t → Answered img low sp next t r s
+        go : (low : List ℕ) (sp : Span) (next : ℕ) (t : List ℕ) → SpanIs sort img prev z low (spanOn p (sp .conts) (sp .entries)) next
+            → (r : Spanned) → SpanSays sort img p (sp .conts) prev z low r → s ≡ t → Answered sort img low sp next t r s
         go low sp next t b Wrong w q = absurd (w (sp .entries) next b)
         go low sp next t b (Right n other h) w q =
             let o : (w .entries ≡ sp .entries) × (other ≡ next) = span-one (w .is) b in
             let c : n ≡ length (sp .entries) = w .count ∙ ap length (o .0) in
-            record { last = h; is = cc (o .1, c); left = q; key = subst (λ (es : List Entry). LastIs img h (lastKey low es)) (o .0) (w .key) }
+            record { last = h; is = cc (o .1, c); left = q; key = subst (λ (es : List Entry). LastIs sort img h (lastKey low es)) (o .0) (w .key) }

@@ -1,32 +1,18 @@
 -- The spans of a table that a walk finds: the text's rules on spans, and the pages they own.
 use Prim.Native.Nat.{ℕ, _+_, _≤_}
 use mathlib.Core.Path.{_≡_}
-use mathlib.Core.Bool.{Bool}
 use mathlib.Core.List.{List, [], _∷_, map}
 use lib.ListN.{length}
-use lib.Dec.{T, leb, eqb}
+use lib.Dec.{T}
 use Rattle.blockfile.specs.Bytes.{Every, gather}
 use Rattle.blockfile.specs.Layout.{Entry, Span, reached}
-use Rattle.blockfile.specs.Order.{KeyRule, nameRule, keyRule, Rising}
+use Rattle.blockfile.specs.Order.{KeyRule, Rising}
 use Rattle.blockfile.specs.WellFormed.{span, linkSpans}
 use Rattle.walks.specs.Found.{Found}
+use Rattle.order.specs.declared.sort.Sort.{Sort}
+use Rattle.order.specs.Sorts.{ruleAs}
 use Rattle.spans.specs.declared.Counted.{Counted}
 use Rattle.spans.specs.declared.Counted.the-variants.{Whole}
-
--- which keys a table may hold: table names with four-byte values, or any key of 1 to 65,535 bytes
-pub data Rule : Type 0 where
-  Names : Rule
-  Keys : Rule
-
--- the keys that a table may hold; those of a table other than the metaindex are the same for every name
-abbrev pub ruleOf : Rule → KeyRule
-ruleOf Names = nameRule
-ruleOf Keys = keyRule []
-
--- the lengths of values: four bytes under a name, else at most 65,535
-abbrev pub sized : Rule → ℕ → Bool
-sized Names n = eqb n 4
-sized Keys n = leb n 65535
 
 abbrev pub entriesIn : List Span → List Entry
 entriesIn ss = gather (λ s. s .entries) ss
@@ -50,13 +36,12 @@ pub record Counts : Type 0 where
 abbrev pub whole : Counts → Counted
 whole a = Whole (a .keys) (a .spans)
 
--- from page p on stand spans of span size z that keep the rules; their pages can be claimed, and s is the scratch then
-pub record SpansFound (rule : Rule) (img scr : List ℕ) (z p : ℕ) (a : Counts) (s : List ℕ) : Type 0 where
+-- from page p on stand spans of span size z that keep the rules of keys that sort so; their pages can be claimed, and s is the scratch then
+pub record SpansFound (sort : Sort) (img scr : List ℕ) (z p : ℕ) (a : Counts) (s : List ℕ) : Type 0 where
   pub first : Span
   pub others : List Span
   pub named : first .page ≡ p
-  pub ok : SpansOk (ruleOf rule) z first others
-  pub fours : Every (λ e. T (sized rule (length (e .value)))) (entriesIn (first ∷ others))
+  pub ok : SpansOk (ruleAs sort) z first others
   pub found : Found img scr (map span (linkSpans z 0 (first ∷ others))) s
   pub keysAre : a .keys ≡ length (entriesIn (first ∷ others))
   pub spansAre : a .spans ≡ length (first ∷ others)

@@ -8,11 +8,14 @@ ghost use Prim.Native.Nat.{_≤_};
 ghost use lib.ListN.{length};
 ghost use Rattle.heads.specs.Claims.{Lent};
 ghost use Rattle.walks.specs.Found.{FindsAt};
-ghost use Rattle.spans.specs.Spans.{Keys, whole, SpansFound};
+ghost use Rattle.order.specs.Sorts.{turn};
+ghost use Rattle.spans.specs.Spans.{whole, SpansFound};
 use crate::entry::Last;
+use crate::span::Rules;
 use crate::span::Spanned;
 use crate::span::verify_span;
 use entries::place::Place;
+use order::sort::turn_of;
 
 // The answer for the spans of a table: broken, or whole with the numbers of keys and of spans.
 pub enum Counted {
@@ -27,11 +30,11 @@ fn walk_spans(
     scratch: &mut [u8],
     chart: &mut [u16],
     start: usize,
-    most: usize,
+    rules: Rules,
     none: Last,
 ) -> Counted
-    requires { ⌜ Lent (now image) (now scratch) × (length (now chart) ≡ 256) × (most ≤ 128) × (none .length ≡ 0) ⌝ }
-    ensures { λ r. ⌜ FindsAt whole (SpansFound Keys (now (image .entry)) (now (scratch .entry)) most start) r (now (scratch .exit)) ⌝ }
+    requires { ⌜ Lent (now image) (now scratch) × (length (now chart) ≡ 256) × (rules .most ≤ 128) × (none .length ≡ 0) × (turn (rules .sort) ≤ none .rank) ⌝ }
+    ensures { λ r. ⌜ FindsAt whole (SpansFound (rules .sort) (now (image .entry)) (now (scratch .entry)) (rules .most) start) r (now (scratch .exit)) ⌝ }
 {
     let mut page = start;
     let mut previous = 0;
@@ -45,7 +48,7 @@ fn walk_spans(
             chart,
             page,
             previous,
-            most,
+            rules,
             last,
         ) else {
             return Counted::Broken;
@@ -66,17 +69,19 @@ fn walk_spans(
     }
 }
 
-// Claims and reads the spans of a table whose first span is on page `start` and whose span size is `most`.
-pub fn verify_spans(image: &[u8], scratch: &mut [u8], start: usize, most: usize) -> Counted
-    requires { ⌜ Lent (now image) (now scratch) × (most ≤ 128) ⌝ }
-    ensures { λ r. ⌜ FindsAt whole (SpansFound Keys (now (image .entry)) (now (scratch .entry)) most start) r (now (scratch .exit)) ⌝ }
+// Claims and reads the spans of a table whose first span is on page `start`.
+pub fn verify_spans(image: &[u8], scratch: &mut [u8], start: usize, rules: Rules) -> Counted
+    requires { ⌜ Lent (now image) (now scratch) × (rules .most ≤ 128) ⌝ }
+    ensures { λ r. ⌜ FindsAt whole (SpansFound (rules .sort) (now (image .entry)) (now (scratch .entry)) (rules .most) start) r (now (scratch .exit)) ⌝ }
 {
     let at = Place { page: 0, offset: 0 };
+    let sort = rules.sort;
+    let rank = turn_of(sort);
     let none = Last {
         at,
         length: 0,
-        prefix: 0,
+        rank,
     };
     let mut chart = [0u16; 256];
-    walk_spans(image, scratch, &mut chart, start, most, none)
+    walk_spans(image, scratch, &mut chart, start, rules, none)
 }

@@ -3,7 +3,6 @@ ghost use mathlib.Core.Path.{_≡_};
 ghost use lib.ListN.{length};
 ghost use Rattle.blockfile.specs.Bytes.{pg, be32};
 ghost use Rattle.heads.specs.Claims.{Lent};
-ghost use Rattle.spans.specs.Spans.{Keys};
 ghost use Rattle.spans.specs.Charts.{Charted};
 ghost use Rattle.spans.specs.Entries.{Met};
 ghost use Rattle.spans.specs.Parts.{ReadySpan, Reading, VerifiedAll};
@@ -15,6 +14,13 @@ use crate::entry::verify_entries;
 use entries::place::Place;
 use heads::claim::head16;
 use heads::claim::head32;
+use order::sort::Sort;
+
+// What all spans of a table have in common: their max keys, and how their keys sort.
+pub struct Rules {
+    pub most: usize,
+    pub sort: Sort,
+}
 
 // The answer for a span: wrong, or right with the number of its entries, the next span's page and the last key met.
 pub enum Spanned {
@@ -31,12 +37,14 @@ fn read_span(
     page: usize,
     more: usize,
     previous: usize,
-    most: usize,
+    rules: Rules,
     last: Last,
 ) -> Spanned
-    requires { ⌜ Lent (now image) (now scratch) × ReadySpan (now image) page more last × Charted (now image) (be32 (pg (now image) page) 4) more (now chart) ⌝ }
-    ensures { λ r. ⌜ Reading Keys (now (image .entry)) page previous most last r ⌝ }
+    requires { ⌜ Lent (now image) (now scratch) × ReadySpan (rules .sort) (now image) page more last × Charted (now image) (be32 (pg (now image) page) 4) more (now chart) ⌝ }
+    ensures { λ r. ⌜ Reading (rules .sort) (now (image .entry)) page previous (rules .most) last r ⌝ }
 {
+    let most = rules.most;
+    let sort = rules.sort;
     if head32(scratch, page, 8) != previous {
         return Spanned::Wrong;
     }
@@ -56,6 +64,7 @@ fn read_span(
         start,
         1004 + 1016 * more,
         size,
+        sort,
         last,
     ) else {
         return Spanned::Wrong;
@@ -75,14 +84,14 @@ pub fn verify_span(
     chart: &mut [u16],
     page: usize,
     previous: usize,
-    most: usize,
+    rules: Rules,
     last: Last,
 ) -> Spanned
-    requires { ⌜ Lent (now image) (now scratch) × (length (now chart) ≡ 256) × Met (now image) last ⌝ }
-    ensures { λ r. ⌜ VerifiedAll Keys (now (image .entry)) (now (scratch .entry)) page previous most last r (now (scratch .exit)) ⌝ }
+    requires { ⌜ Lent (now image) (now scratch) × (length (now chart) ≡ 256) × Met (rules .sort) (now image) last ⌝ }
+    ensures { λ r. ⌜ VerifiedAll (rules .sort) (now (image .entry)) (now (scratch .entry)) page previous (rules .most) last r (now (scratch .exit)) ⌝ }
 {
     let Claims::Held(more) = claim_span(scratch, chart, page) else {
         return Spanned::Wrong;
     };
-    read_span(image, scratch, chart, page, more, previous, most, last)
+    read_span(image, scratch, chart, page, more, previous, rules, last)
 }

@@ -18,7 +18,7 @@ use Rattle.laws.proofs.Middle.{rising-right, insert-middle, erase-middle}
 use Rattle.pages.specs.Places.{Number}
 use Rattle.entries.specs.declared.place.Sizes.{Sizes}
 use Rattle.search.specs.Spans.{SpanOn, Before, Met, Passed, Ended}
-use Rattle.search.proofs.Rules.{bytewise-ordered}
+use Rattle.search.proofs.Rules.{sorts-ordered}
 use Rattle.search.proofs.Seeks.{span-size}
 use Rattle.stage.specs.Changes.{spliced, Spotted}
 
@@ -86,7 +86,7 @@ module _ {img : List ℕ} {page : ℕ} (x : SpanOn img page) (k : List ℕ) (siz
   few = omega (arith, n .below, long)
 
   o : Ordered r
-  o = bytewise-ordered r (x .there .order)
+  o = sorts-ordered r (x .there .order)
 
   before-length : {rest : List Entry} (b : Before r k es rest) → length (b .passed) + length rest ≡ size
   before-length {rest} b = sym (length-append (b .passed) rest) ∙ sym (ap length (b .all)) ∙ sym long

@@ -7,9 +7,10 @@ use mathlib.Core.Option.{none, some}
 use lib.ListN.{length, take, drop}
 use Rattle.blockfile.specs.Layout.{Entry}
 use Rattle.blockfile.specs.Order.{KeyRule, find, insert, erase}
+use Rattle.order.specs.declared.sort.Sort.{Sort}
 use Rattle.entries.specs.declared.place.Place.{Place}
 use Rattle.entries.specs.declared.place.Sizes.{Sizes}
-use Rattle.search.specs.Spans.{SpanOn, Along, EntryAt}
+use Rattle.search.specs.Spans.{SpanBy, Along, EntryAt}
 use Rattle.stage.specs.declared.change.Spot.{Spot}
 use Rattle.stage.specs.declared.change.Change.{Change}
 use Rattle.stage.specs.declared.change.Cursor.{Cursor}
@@ -39,8 +40,8 @@ pub record Spotted (r : KeyRule) (k : List ℕ) (es : List Entry) (s : Spot) : T
   pub found : s .there ≡ 1 → (v : List ℕ) × (find k es ≡ some v)
   pub missing : s .there ≡ 0 → find k es ≡ none
 
-pub record SpottedOn (img : List ℕ) (page : ℕ) (k : List ℕ) (s : Spot) : Type 0 where
-  pub is : (x : SpanOn img page) → Spotted (x .rule) k (x .linked .span .entries) s
+pub record SpottedOn (img : List ℕ) (page : ℕ) (sort : Sort) (k : List ℕ) (s : Spot) : Type 0 where
+  pub is : (x : SpanBy img page sort) → Spotted (x .on .rule) k (x .on .linked .span .entries) s
 
 -- ---- Cursors
 

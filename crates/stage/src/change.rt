@@ -1,10 +1,11 @@
 // A change of a span's entries, and cursors that go through the list that it makes.
 ghost use mathlib.Core.Path.{_≡_};
-ghost use Rattle.search.specs.Spans.{SpanOn, EntryThere};
+ghost use Rattle.search.specs.Spans.{SpanBy, EntryThere};
 ghost use Rattle.stage.specs.Changes.{SpottedOn, PassedOver, Going, Reached, IsNew, NextOf};
 use entries::place::Place;
 use entries::place::Sizes;
 use entries::place::lengths;
+use order::sort::Sort;
 use pages::read::get16;
 use reader::place_after;
 use search::span::Stop;
@@ -38,12 +39,12 @@ pub enum Next {
 }
 
 // Where the key belongs in the span on the page.
-pub fn find_spot(image: &[u8], page: usize, key: &[u8]) -> Spot
-    requires { ⌜ SpanOn (now image) page ⌝ }
-    ensures { λ r. ⌜ SpottedOn (now (image .entry)) page (now (key .entry)) r ⌝ }
+pub fn find_spot(image: &[u8], page: usize, sort: Sort, key: &[u8]) -> Spot
+    requires { ⌜ SpanBy (now image) page sort ⌝ }
+    ensures { λ r. ⌜ SpottedOn (now (image .entry)) page sort (now (key .entry)) r ⌝ }
 {
     let size = get16(image, page, 18);
-    let stop = seek(image, page, key);
+    let stop = seek(image, page, sort, key);
     match stop {
         Stop::Here(_, left) => Spot {
             index: size - left,

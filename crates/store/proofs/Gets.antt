@@ -8,15 +8,19 @@ use lib.ListN.{length}
 use Rattle.blockfile.specs.declared.Got.{Got}
 use Rattle.blockfile.specs.declared.Got.the-variants.{Found, Refused as NotGot}
 use Rattle.blockfile.specs.Layout.{Layout, freeCount}
-use Rattle.blockfile.specs.Order.{keyRule, same, find, above}
+use Rattle.blockfile.specs.Order.{KeyRule, keyRule, same, find, above}
 use Rattle.blockfile.specs.Refusals.{Op, Ledger, plain, ledgerOf, sought, rows, lowest, refused, mayLack, handed, doneReply}
 use Rattle.blockfile.specs.Answers.{planOf, refuse, outcomeIf, outcomeOn}
 use Rattle.blockfile.specs.Calls.{gotReply, accepted, Keeps}
+use Rattle.order.specs.declared.sort.Sort.{Sort}
+use Rattle.order.specs.Sorts.{sortOf, ruleAs}
+use Rattle.order.proofs.Sorts.{rule-by}
 use Rattle.search.specs.declared.span.Sought.{Sought}
+use Rattle.search.specs.declared.table.TableRef.{TableRef}
 use Rattle.search.specs.Spans.{Answered}
-use Rattle.search.specs.Tables.{Reading, FoundIn, AboveIn}
+use Rattle.search.specs.Tables.{ReadingBy, FoundIn, AboveIn}
 use Rattle.search.proofs.Seeks.{answer-as}
-use Rattle.search.proofs.Readables.{table-reading}
+use Rattle.search.proofs.Readables.{table-by}
 use Rattle.laws.proofs.Determined.{determined}
 use Rattle.refusals.specs.Table.{tableRows, OnTable, Entering}
 use Rattle.refusals.specs.Answer.{answerRows, Hands}
@@ -38,7 +42,7 @@ not-or : (a b : Bool) → not (a || b) ≡ (not a && not b)
 not-or true b = refl
 not-or false b = refl
 
-ask-as : (q : Question) (name key : List ℕ) (legal : Bool) → legal ≡ askable q name key → ReadCall (asking q name key) name legal
+ask-as : (q : Question) (name key : List ℕ) (legal : Bool) → legal ≡ askable q (keyRule name) key → ReadCall (asking q name key) name legal
 ask-as Value name key legal e = record { are = λ l room. rw e; gives = λ l. refl; replies = λ l free. refl; has-room = refl; still = λ L. refl }
 ask-as Above name key legal e =
     record {
@@ -49,24 +53,24 @@ ask-as Above name key legal e =
       still = λ L. refl;
     }
 
-pub ask-reads : {q : Question} {key : List ℕ} {legal : Bool} → Allows q key legal → (name : List ℕ) → ReadCall (asking q name key) name legal
-ask-reads {q} {key} {legal} a name = ask-as q name key legal (a .is name)
+pub ask-reads : {q : Question} {s : Sort} {key : List ℕ} {legal : Bool} → Allows q s key legal → (name : List ℕ) → s ≡ sortOf name → ReadCall (asking q name key) name legal
+ask-reads {q} {s} {key} {legal} a name by = ask-as q name key legal (a .is ∙ ap (λ (r : KeyRule). askable q r key) (rule-by name by))
 
 -- ---- The ways through `may_ask` and `ask`
 
-module _ {q : Question} {key : List ℕ} {b : Bool} where
-  pub allows-value : q ≡ Value → ((name : List ℕ) → b ≡ keyRule name .allowed key) → Allows q key b
-  allows-value e h = subst (λ (x : Question). Allows x key b) (sym e) (record { is = h })
+module _ {q : Question} {s : Sort} {key : List ℕ} {b : Bool} where
+  pub allows-value : q ≡ Value → b ≡ ruleAs s .allowed key → Allows q s key b
+  allows-value e h = subst (λ (x : Question). Allows x s key b) (sym e) (record { is = h })
 
-  pub allows-above : q ≡ Above → ((name : List ℕ) → b ≡ (same key [] || keyRule name .allowed key)) → Allows q key b
-  allows-above e h = subst (λ (x : Question). Allows x key b) (sym e) (record { is = h })
+  pub allows-above : q ≡ Above → b ≡ (same key [] || ruleAs s .allowed key) → Allows q s key b
+  allows-above e h = subst (λ (x : Question). Allows x s key b) (sym e) (record { is = h })
 
-module _ {q : Question} {img : List ℕ} {root : ℕ} {key : List ℕ} {r : Sought} where
-  pub asked-value : q ≡ Value → FoundIn img root key r → AskedIn q img root key r
-  asked-value e h = subst (λ (x : Question). AskedIn x img root key r) (sym e) (record { is = h })
+module _ {q : Question} {img : List ℕ} {t : TableRef} {key : List ℕ} {r : Sought} where
+  pub asked-value : q ≡ Value → FoundIn img t key r → AskedIn q img t key r
+  asked-value e h = subst (λ (x : Question). AskedIn x img t key r) (sym e) (record { is = h })
 
-  pub asked-above : q ≡ Above → AboveIn img root key r → AskedIn q img root key r
-  asked-above e h = subst (λ (x : Question). AskedIn x img root key r) (sym e) (record { is = h })
+  pub asked-above : q ≡ Above → AboveIn img t key r → AskedIn q img t key r
+  asked-above e h = subst (λ (x : Question). AskedIn x img t key r) (sym e) (record { is = h })
 
 -- ---- What the promise takes
 
@@ -103,15 +107,18 @@ module _ {op : Op} {name : List ℕ} {legal : Bool} (reads : ReadCall op name le
 
 -- ---- The searches
 
-module _ {img s name : List ℕ} {legal : Bool} {page : ℕ} {out : List ℕ} (h : Entering img s name legal page out) where
-  abbrev pub reading : Reading img page
-  reading = table-reading img (h .layout) (h .well) name (h .there .table) (h .there .found) page (h .there .root)
+module _ {img s name : List ℕ} {legal : Bool} {page : ℕ} {out : List ℕ} (h : Entering img s name legal page out) {sort : Sort} (by : sort ≡ sortOf name) where
+  abbrev table : TableRef
+  table = record { root = page; sort = sort }
 
-  finds-as : (q : Question) (key : List ℕ) (found : Sought) → askedIn q img page key found → Answered img (sought (ledgerOf (h .layout)) (asking q name key)) found
+  abbrev pub reading : ReadingBy img table
+  reading = table-by img (h .layout) (h .well) name (h .there .table) (h .there .found) table (h .there .root) by
+
+  finds-as : (q : Question) (key : List ℕ) (found : Sought) → askedIn q img table key found → Answered img (sought (ledgerOf (h .layout)) (asking q name key)) found
   finds-as Value key found f = answer-as (ap (find key) (its-map (h .layout) name (h .there .table) (h .there .found))) (f .is reading)
   finds-as Above key found f = answer-as (ap (above (keyRule name) key) (its-map (h .layout) name (h .there .table) (h .there .found))) (f .is reading)
 
-  pub ask-finds : {q : Question} {key : List ℕ} {found : Sought} → AskedIn q img page key found → Answered img (sought (ledgerOf (h .layout)) (asking q name key)) found
+  pub ask-finds : {q : Question} {key : List ℕ} {found : Sought} → AskedIn q img table key found → Answered img (sought (ledgerOf (h .layout)) (asking q name key)) found
   ask-finds {q} {key} {found} f = finds-as q key found (f .is)
 
 -- ---- The promise determines the numbers of the answer and every byte of scratch and answer buffer

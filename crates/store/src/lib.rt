@@ -14,12 +14,14 @@ use blockfile::Refusal;
 use blockfile::Wrote;
 use change::Request;
 use change::change;
+use order::sort::sort_of;
 use pages::write::clear;
 use refusals::answer::hand_over;
 use refusals::open::Opened;
 use refusals::open::open;
 use refusals::table::Entered;
 use refusals::table::open_table;
+use search::table::TableRef;
 
 mod ask;
 
@@ -47,9 +49,13 @@ fn read(
 ) -> Got
     ensures { λ r. ⌜ Keeps (asking question (now (name .entry)) (now (key .entry))) (now (image .entry)) (now (scratch .entry)) (now (answer .entry)) (gotReply r) (now (image .entry)) (now (scratch .exit)) (now (answer .exit)) ⌝ }
 {
-    match open_table(image, scratch, name, may_ask(question, key)) {
+    let sort = sort_of(name);
+    match open_table(image, scratch, name, may_ask(question, sort, key)) {
         Entered::Refused(why) => Got::Refused(why),
-        Entered::Found(page) => hand_over(image, ask(image, page, question, key), answer),
+        Entered::Found(page) => {
+            let table = TableRef { root: page, sort };
+            hand_over(image, ask(image, table, question, key), answer)
+        }
     }
 }
 

@@ -11,7 +11,7 @@ use borrow.Author.Tests.{le-leb}
 use Rattle.blockfile.specs.declared.Counts.{Counts}
 use Rattle.blockfile.specs.Bytes.{pg, Every, gather}
 use Rattle.blockfile.specs.Layout.{Keyed, Entry, Table, Block, Layout, entriesOf, freeCount}
-use Rattle.blockfile.specs.Order.{Within, within, allWithin, KeyRule, nameRule, keyRule, Rising}
+use Rattle.blockfile.specs.Order.{Within, within, allWithin, KeyRule, nameRule, bytesRule, keyRule, Rising}
 use Rattle.blockfile.specs.WellFormed.{Piece, superblock, pagesOf, Bears, TableOk, tablePieces, freePieces, firstBlock, pieces, WellFormed}
 use Rattle.blockfile.proofs.Bools.{holds, and-both, both-and, within-is}
 use Rattle.blockfile.proofs.Every.{every-so}
@@ -23,7 +23,7 @@ use Rattle.walks.specs.Found.{claims, Fresh, Found, FindsAt}
 use Rattle.walks.proofs.Founds.{SameAt, same-turn, done-injective, refused-never, found-join, found-first, found-second, found-lent, fresh-left, fresh-right, length-claims}
 use Rattle.walks.proofs.Once.{AllOpen, claimed-once, once-claimed}
 use Rattle.search.specs.Spans.{Borne}
-use Rattle.spans.specs.Spans.{Keys, ruleOf, sized}
+use Rattle.order.specs.declared.sort.Sort.the-variants.{Bytes}
 use Rattle.spans.proofs.PageClaims.{inside-fresh}
 use Rattle.verify.specs.declared.superblock.Started.{Started}
 use Rattle.verify.specs.declared.superblock.Started.the-variants.{Begun, Refused as Unstarted}
@@ -70,7 +70,7 @@ pub record Tabled (img : List ℕ) (p first : ℕ) (scr : List ℕ) (c : Counts)
 
 -- the metaindex that was found between two states of the scratch, with m keys; whether they are names is seen with the tables
 abbrev pub MetaFound : (img scr : List ℕ) (m : ℕ) (mid : List ℕ) → Type 0
-MetaFound img scr m mid = TableFound (ruleOf Keys) (sized Keys) img scr 2 m mid
+MetaFound img scr m mid = TableFound Bytes img scr 2 m mid
 
 -- after the metaindex
 pub record Named (img : List ℕ) (p first : ℕ) (scr : List ℕ) (m : ℕ) (mid : List ℕ) (c : Counts) (out : List ℕ) : Type 0 where
@@ -178,13 +178,13 @@ module _ (r s : KeyRule) (order : r .below ≡ s .below) where
         others = ok .others;
       }
 
--- a name is a key, and names sort as keys do
-name-order : nameRule .below ≡ keyRule [] .below
-unfolding nameRule keyRule
+-- a name is a key, and names sort by bytes
+name-order : nameRule .below ≡ bytesRule .below
+unfolding nameRule
 name-order = refl
 
-name-key : (k : List ℕ) → T (nameRule .allowed k) → T (keyRule [] .allowed k)
-unfolding nameRule keyRule
+name-key : (k : List ℕ) → T (nameRule .allowed k) → T (bytesRule .allowed k)
+unfolding nameRule
 name-key k h =
     let w : Within 1 255 (length k) = within-is 1 255 (length k) (and-both (within 1 255 (length k)) (allWithin 0x21 0x7e k) h .0) in
     both-and (leb 1 (length k)) (leb (length k) 65535) (le→leb 1 (length k) (w .0)) (le→leb (length k) 65535 (omega arith))
@@ -195,9 +195,8 @@ module _ (img : List ℕ) (p first : ℕ) (scr : List ℕ) (r : Walked) (s : Lis
       record {
         table = t .meta;
         named = t .metaPage;
-        ok = other-rule nameRule (keyRule []) name-order (t .meta) (t .metaOk)
+        ok = other-rule nameRule bytesRule name-order (t .meta) (t .metaOk)
             (every-so (λ (e : Entry). T (nameRule .allowed (e .key))) (λ e. name-key (e .key)) (entriesOf (t .meta)) (t .metaOk .keys));
-        sizes = every-so (λ (e : Entry). length (e .value) ≤ 65535) (λ e l. holds _ (le-leb (length (e .value)) 65535 l)) (entriesOf (t .meta)) (t .metaOk .values);
         found = found-first img scr (tablePieces (t .meta)) (tablesPieces (t .tables) ++ freePieces (t .free)) out (t .found);
         keys = refl;
       }
@@ -219,7 +218,7 @@ module _ (img : List ℕ) (p first : ℕ) (scr : List ℕ) (r : Walked) (s : Lis
             tables = n .tables;
             free = n .free;
             metaPage = n .meta .named;
-            metaOk = other-rule (keyRule []) nameRule (sym name-order) (n .meta .table) (n .meta .ok) (n .names);
+            metaOk = other-rule bytesRule nameRule (sym name-order) (n .meta .table) (n .meta .ok) (n .names);
             metaEntries = n .metaEntries;
             tablesOk = n .tablesOk;
             start = n .start;
@@ -237,7 +236,6 @@ module _ (img : List ℕ) (p first : ℕ) (scr : List ℕ) (r : Walked) (s : Lis
               table = t .meta;
               named = t .metaPage;
               ok = meta-of c out t .ok;
-              sizes = meta-of c out t .sizes;
               found = subst (Found img scr (tablePieces (t .meta))) (sym (d .1)) (meta-of c out t .found);
               keys = i;
             };

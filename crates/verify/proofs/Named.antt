@@ -6,10 +6,10 @@ use mathlib.Core.Bool.{Bool, true, false, true≢false}
 use mathlib.Core.List.{List, [], _∷_, _++_, map, map-append, head-eq-of-cons-eq, tail-eq-of-cons-eq, nil≢cons, cons≢nil}
 use lib.ListN.{length, drop, getD, length-append, length-map, take-append-drop}
 use lib.Dec.{T, eqb, eqb→eq}
-use borrow.Author.Tests.{le-leb, eq-eqb}
+use borrow.Author.Tests.{eq-eqb, le-leb, lt-leb, ne-eqb}
 use Rattle.blockfile.specs.Bytes.{pg, be16, be32, word32, Every, gather, firstOf}
 use Rattle.blockfile.specs.Layout.{Keyed, Entry, Span, Table, columns, spansOf, entriesOf, reached}
-use Rattle.blockfile.specs.Order.{KeyRule, nameRule, keyRule}
+use Rattle.blockfile.specs.Order.{KeyRule, nameRule, bytesRule, keyRule}
 use Rattle.blockfile.specs.Fields.{IsSkipList}
 use Rattle.blockfile.specs.WellFormed.{Piece, span, tower, linkSpans, spansIn, towersIn, skipListOf, TableOk, tablePieces}
 use Rattle.blockfile.proofs.Bools.{so, holds, and-both, both-and, within-is}
@@ -30,12 +30,16 @@ use Rattle.entries.specs.Places.{IsPage, Enough, Moved, gap, Measured, Numbered
 use Rattle.pages.proofs.Words.{Byte, bytes-at, bytes-take}
 use Rattle.entries.proofs.Octets.{bytes-rest}
 use Rattle.search.specs.Spans.{Borne, BytesAt, Along, EntryAt}
-use Rattle.entries.specs.Keys.{Key}
+use Rattle.entries.specs.Keys.{Key, Printed}
+use Rattle.entries.proofs.Keys.{key-length}
 use Rattle.search.proofs.Entries.{bytes-key, bytes-enough, bytes-length, along-enough, along-entry, entry-key, borne-along}
-use Rattle.spans.specs.Spans.{Names, Keys, ruleOf, sized, entriesIn}
-use Rattle.spans.specs.Entries.{fits, Allowed}
+use Rattle.order.specs.declared.sort.Sort.{Sort}
+use Rattle.order.specs.Sorts.{sortOf, ruleAs}
+use Rattle.order.proofs.Sorts.{rule-as}
+use Rattle.entries.specs.Sorted.{SortAt}
+use Rattle.spans.specs.Spans.{entriesIn}
 use Rattle.towers.proofs.Heads.{span-few}
-use Rattle.verify.specs.Tables.{TableFound, listing, keysOf, TablesFound, NamesOn, MetaOn}
+use Rattle.verify.specs.Tables.{isName, NameAt, TableFound, listing, keysOf, TablesFound, NamesOn, MetaOn}
 
 -- ---- Four bytes and their number
 
@@ -103,7 +107,7 @@ tables-few img scr es n m out f =
     let o : unclaimed out ≡ unclaimed (claims scr (ownedBy (named (f .tables)))) = ap unclaimed (f .found .left) in
     omega (arith, named-few (f .tables) (f .ok), f .keys)
 
-pub table-fewer : {r : KeyRule} {sized : ℕ → Bool} (img scr : List ℕ) (root k : ℕ) (out : List ℕ) → TableFound r sized img scr root k out → (k + 128 * unclaimed out ≤ 128 * unclaimed scr) × (length out ≡ length scr)
+pub table-fewer : {sort : Sort} (img scr : List ℕ) (root k : ℕ) (out : List ℕ) → TableFound sort img scr root k out → (k + 128 * unclaimed out ≤ 128 * unclaimed scr) × (length out ≡ length scr)
 table-fewer img scr root k out f =
     let z : unclaimed scr ≡ length (ownedBy (tablePieces (f .table))) + unclaimed (claims scr (ownedBy (tablePieces (f .table)))) = unclaimed-claims scr (ownedBy (tablePieces (f .table))) (f .found .fresh) in
     let o : unclaimed out ≡ unclaimed (claims scr (ownedBy (tablePieces (f .table)))) = ap unclaimed (f .found .left) in
@@ -111,28 +115,54 @@ table-fewer img scr root k out f =
 
 -- ---- One table after another
 
-rule-same : (k : List ℕ) → keyRule k ≡ keyRule []
-unfolding keyRule
-rule-same k = refl
-
-key-some : (k : List ℕ) → T (keyRule [] .allowed k) → 1 ≤ length k
-unfolding keyRule
+key-some : (k : List ℕ) → T (bytesRule .allowed k) → 1 ≤ length k
 key-some k h = within-is 1 65535 (length k) h .0
 
+-- ---- The test of a name
+
+module _ (img : List ℕ) (at : Place) (n v : ℕ) (low : 1 ≤ n) where
+  pub name-not-four : (v ≡ 4 → ⊥) → NameAt img at n v false
+  name-not-four d = record { is = λ k a. rw (ne-eqb v 4 d) }
+
+  pub name-long : v ≡ 4 → 255 < n → NameAt img at n v false
+  unfolding nameRule
+  name-long four h =
+      record {
+        is = λ k a.
+            let some : 1 ≤ length k = omega (arith, key-length a) in
+            let w : 255 < length k = omega (arith, key-length a) in
+            rw (eq-eqb v 4 four, le-leb 1 (length k) some, lt-leb (length k) 255 w);
+      }
+
+  pub name-printed : v ≡ 4 → n ≤ 255 → (r : Bool) → Printed img at n r → NameAt img at n v r
+  unfolding nameRule
+  name-printed four h r p =
+      record {
+        is = λ k a.
+            let some : 1 ≤ length k = omega (arith, key-length a) in
+            let w : length k ≤ 255 = omega (arith, key-length a) in
+            rw (eq-eqb v 4 four, le-leb 1 (length k) some, le-leb (length k) 255 w) (p .is k a);
+      }
+
 -- the first of the entries that name tables passes the test
-listing-fits : (e : Entry) (es : List Entry) (ts : List (Keyed Table)) → T (nameRule .allowed (e .key)) → e ∷ es ≡ map listing ts → fits Names (e .key) (length (e .value)) ≡ true
+listing-fits : (e : Entry) (es : List Entry) (ts : List (Keyed Table)) → T (nameRule .allowed (e .key)) → e ∷ es ≡ map listing ts → isName (e .key) (length (e .value)) ≡ true
 unfolding word32
 listing-fits e es [] a q = absurd (cons≢nil q)
 listing-fits e es (t ∷ ts) a q =
     let four : length (e .value) ≡ 4 = ap (λ (x : Entry). length (x .value)) (head-eq-of-cons-eq q) in
     so _ (both-and (eqb (length (e .value)) 4) (nameRule .allowed (e .key)) (holds _ (eq-eqb (length (e .value)) 4 four)) a)
 
-module _ (img scr : List ℕ) (lent : Lent img scr) (e : Entry) (es : List Entry) (n root : ℕ) (name : T (nameRule .allowed (e .key))) (word : e .value ≡ word32 root) (small : root < 4294967296) where
+module _ (img scr : List ℕ) (lent : Lent img scr) (e : Entry) (es : List Entry) (n root : ℕ) (name : T (nameRule .allowed (e .key))) (word : e .value ≡ word32 root) (small : root < 4294967296)
+    (sort : Sort) (by : sort ≡ sortOf (e .key)) where
+  -- the rule of the first table is its name's
+  rule-of : keyRule (e .key) ≡ ruleAs sort
+  rule-of = rule-as (e .key) ∙ ap ruleAs (sym by)
+
   -- the first table, and the others after it
   record Parted (m : ℕ) (out : List ℕ) : Type 0 where
     keys : ℕ
     mid : List ℕ
-    first : TableFound (ruleOf Keys) (sized Keys) img scr root keys mid
+    first : TableFound sort img scr root keys mid
     rest : TablesFound img mid es (n + keys) m out
 
   part : (m : ℕ) (out : List ℕ) (ts : List (Keyed Table)) → Every (λ x. T (nameRule .allowed (x .key))) es → e ∷ es ≡ map listing ts
@@ -142,15 +172,13 @@ module _ (img scr : List ℕ) (lent : Lent img scr) (e : Entry) (es : List Entry
       let o : Open scr (t .value .root) = f .fresh .0 in
       let h : e ≡ listing t = head-eq-of-cons-eq q in
       let is : t .value .root ≡ root = word-injective (t .value .root) root (omega (arith, o .high, lent .room .whole, lent .room .most)) small (ap (λ (x : Entry). x .value) (sym h) ∙ word) in
-      let good : TableOk (keyRule []) (t .value) = subst (λ r. TableOk r (t .value)) (rule-same (t .key)) (ok .0) in
       record {
         keys = length (entriesOf (t .value));
         mid = claims scr (ownedBy (tablePieces (t .value)));
         first = record {
           table = t .value;
           named = is;
-          ok = good;
-          sizes = every-so (λ (x : Entry). length (x .value) ≤ 65535) (λ x l. holds _ (le-leb (length (x .value)) 65535 l)) (entriesOf (t .value)) (good .values);
+          ok = subst (λ r. TableOk r (t .value)) (ap (λ (x : Entry). keyRule (x .key)) (sym h) ∙ rule-of) (ok .0);
           found = found-first img scr (tablePieces (t .value)) (named ts) out f;
           keys = refl;
         };
@@ -167,19 +195,19 @@ module _ (img scr : List ℕ) (lent : Lent img scr) (e : Entry) (es : List Entry
   parted : (m : ℕ) (out : List ℕ) → TablesFound img scr (e ∷ es) n m out → Parted m out
   parted m out f = part m out (f .tables) (f .names .1) (f .named) (f .ok) (f .found) (f .keys)
 
-  joined : (k : ℕ) (mid : List ℕ) (m : ℕ) (out : List ℕ) → TableFound (ruleOf Keys) (sized Keys) img scr root k mid → TablesFound img mid es (n + k) m out
+  joined : (k : ℕ) (mid : List ℕ) (m : ℕ) (out : List ℕ) → TableFound sort img scr root k mid → TablesFound img mid es (n + k) m out
       → TablesFound img scr (e ∷ es) n m out
   joined k mid m out t f =
       record {
         names = (name, f .names);
         tables = record { key = e .key; value = t .table } ∷ f .tables;
         named = ap₂ (λ (x : Entry) (xs : List Entry). x ∷ xs) (λ i. record { key = e .key; value = (word ∙ ap word32 (sym (t .named))) i }) (f .named);
-        ok = (subst (λ r. TableOk r (t .table)) (sym (rule-same (e .key))) (t .ok), f .ok);
+        ok = (subst (λ r. TableOk r (t .table)) (sym rule-of) (t .ok), f .ok);
         found = found-join img scr (tablePieces (t .table)) (named (f .tables)) mid out (t .found) (f .found);
         keys = omega (arith, f .keys, t .keys);
       }
 
-  module _ (r : Walked) (s : List ℕ) (f : FindsAt Done (TableFound (ruleOf Keys) (sized Keys) img scr root) r s) where
+  module _ (r : Walked) (s : List ℕ) (f : FindsAt Done (TableFound sort img scr root) r s) where
     pub name-no : r ≡ Refused → (m : ℕ) (out : List ℕ) → TablesFound img scr (e ∷ es) n m out → ⊥
     name-no q m out x = refused-never _ (sym q ∙ f .complete _ _ (parted m out x .first) .0)
 
@@ -281,9 +309,9 @@ module _ {img scr₀ : List ℕ} {es : List Entry} {before : ℕ} {scr : List �
       value-long : length (turn .first .value) ≡ g .value
       value-long = omega (arith, bytes-length (entry .key), simp length-append at (bytes-length (entry .both)))
 
-      module _ (legal : Bool) (a : Allowed Names img (g .after) (g .key) (g .value) legal) where
-        fit : legal ≡ fits Names (turn .first .key) (length (turn .first .value))
-        fit = a .is (turn .first .key) (bytes-key (entry .key)) ∙ ap (fits Names (turn .first .key)) (sym value-long)
+      module _ (legal : Bool) (a : NameAt img (g .after) (g .key) (g .value) legal) where
+        fit : legal ≡ isName (turn .first .key) (length (turn .first .value))
+        fit = a .is (turn .first .key) (bytes-key (entry .key)) ∙ ap (isName (turn .first .key)) (sym value-long)
 
         pub naming-unnamed : legal ≡ false → FindsAt Done (TablesFound img scr₀ es before) Refused scr
         naming-unnamed e =
@@ -306,10 +334,13 @@ module _ {img scr₀ : List ℕ} {es : List Entry} {before : ℕ} {scr : List �
                 let v : BytesAt img p (g .value) (turn .first .value) = value in
                 record { bytes = v .bytes; rest = v .rest; long = omega (arith, v .long, value-long, four) }
 
-            module _ (bytes : (i : ℕ) → getD img i 0 < 256) (root : ℕ) (is : Numbered img p root) (r : Walked) (s : List ℕ)
-                (f : FindsAt Done (TableFound (ruleOf Keys) (sized Keys) img scr root) r s) where
+            module _ (bytes : (i : ℕ) → getD img i 0 < 256) (root : ℕ) (is : Numbered img p root) (sort : Sort) (by : SortAt img (g .after) (g .key) sort) (r : Walked) (s : List ℕ)
+                (f : FindsAt Done (TableFound sort img scr root) r s) where
               word : turn .first .value ≡ word32 root
               word = value-word img bytes p (g .value) (turn .first .value) value four root is
+
+              sorted : sort ≡ sortOf (turn .first .key)
+              sorted = by .is (turn .first .key) (bytes-key (entry .key))
 
               small : root < 4294967296
               small = value-below img bytes p (g .value) (turn .first .value) value four root is
@@ -317,7 +348,7 @@ module _ {img scr₀ : List ℕ} {es : List Entry} {before : ℕ} {scr : List �
               pub naming-no : r ≡ Refused → FindsAt Done (TablesFound img scr₀ es before) Refused s
               naming-no e =
                   finds-none Done Refused s (turn .same) refused-never
-                  (name-no img scr (v .lent) (turn .first) (turn .more) keys root (parts .1) word small r s f e)
+                  (name-no img scr (v .lent) (turn .first) (turn .more) keys root (parts .1) word small sort sorted r s f e)
 
               pub naming-next : (k : ℕ) → r ≡ Done k → (q : Place) → Moved img (g .after) (g .key + g .value) q → Naming img scr₀ es before s q (left - 1) (keys + k)
               naming-next k e q on =
@@ -330,7 +361,7 @@ module _ {img scr₀ : List ℕ} {es : List Entry} {before : ℕ} {scr : List �
                     long = b .1 ∙ v .long;
                     lent = found-lent (v .lent) (f .sound k e .found);
                     few = omega (arith, b .0, v .few);
-                    same = same-turn (name-next img scr (v .lent) (turn .first) (turn .more) keys root (parts .1) word small r s f k e) (turn .same);
+                    same = same-turn (name-next img scr (v .lent) (turn .first) (turn .more) keys root (parts .1) word small sort sorted r s f k e) (turn .same);
                   }
 
 -- ---- The entries of one span after those of another
@@ -454,7 +485,7 @@ module _ (img scr : List ℕ) (meta : Table) (h : MetaOn img meta) where
         rest = spansOf (columns meta);
         borne = every-left (Borne img) (map span (spansIn meta)) (map tower (towersIn meta)) (h .borne .1);
         reach = h .ok .reach;
-        some = every-so (λ (e : Entry). T (keyRule [] .allowed (e .key))) (λ e. key-some (e .key)) (entriesOf meta) (h .ok .keys);
+        some = every-so (λ (e : Entry). T (bytesRule .allowed (e .key))) (λ e. key-some (e .key)) (entriesOf meta) (h .ok .keys);
         starts = p ∙ k .first;
         count = l ∙ k .spans ∙ sym (length-map (columns meta) (λ c. c .span));
         long = refl;

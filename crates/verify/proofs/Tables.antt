@@ -22,7 +22,9 @@ use Rattle.walks.proofs.Founds.{decides-false, same-start, finds-none, finds-do
 use Rattle.walks.proofs.Pieces.{Single, found-claimable, found-rest, found-cons, claim-done, claim-not}
 use Rattle.spans.specs.declared.Counted.{Counted}
 use Rattle.spans.specs.declared.Counted.the-variants.{Broken as NoSpans, Whole as AllSpans}
-use Rattle.spans.specs.Spans.{Rule, ruleOf, sized, entriesIn, SpansOk, whole, SpansFound}
+use Rattle.order.specs.declared.sort.Sort.{Sort}
+use Rattle.order.specs.Sorts.{ruleAs}
+use Rattle.spans.specs.Spans.{entriesIn, SpansOk, whole, SpansFound}
 use Rattle.towers.specs.Towers.{Spanned, HasSpans, TowersFound}
 use Rattle.towers.proofs.Heads.{spans-found}
 use Rattle.verify.specs.declared.table.Columned.{Columned}
@@ -31,16 +33,16 @@ use Rattle.verify.specs.Tables.{Tally, columned, CountsAre, TableFound, 
 
 -- ---- Spans and towers
 
-module _ (rule : Rule) (img scr : List ℕ) (lent : Lent img scr) (root z : ℕ) (range : Within 2 128 z) where
+module _ (sort : Sort) (img scr : List ℕ) (lent : Lent img scr) (root z : ℕ) (range : Within 2 128 z) where
   abbrev Cols : Tally → List ℕ → Type 0
-  Cols = ColumnsFound (ruleOf rule) (sized rule) img scr root z
+  Cols = ColumnsFound sort img scr root z
 
   none : (s : List ℕ) → ((a : Tally) (t : List ℕ) → Cols a t → ⊥) → FindsAt columned Cols Broken s
   none s n = finds-none columned Broken s (same-start Cols) (λ a e. let q : _≡_ {A = ℕ} 0 1 = cc in omega arith) n
 
   -- the spans of columns that are found
   spans-of : (a : Tally) (t : List ℕ) (c : Cols a t)
-      → SpansFound rule img scr z (be32 (pg img root) 8) (record { keys = a .keys; spans = a .spans }) (claims scr (gather pagesOf (map span (spansIn (c .table)))))
+      → SpansFound sort img scr z (be32 (pg img root) 8) (record { keys = a .keys; spans = a .spans }) (claims scr (gather pagesOf (map span (spansIn (c .table)))))
   spans-of a t c =
       record {
         first = c .table .first;
@@ -55,16 +57,15 @@ module _ (rule : Rule) (img scr : List ℕ) (lent : Lent img scr) (root z : ℕ)
               values = c .ok .values;
               rising = c .ok .rising;
             };
-        fours = c .sizes;
         found = subst (λ (n : ℕ). Found img scr (map span (linkSpans n 0 (spansOf (columns (c .table))))) (claims scr (gather pagesOf (map span (spansIn (c .table)))))) (c .size)
             (found-first img scr (map span (spansIn (c .table))) (map tower (towersIn (c .table))) t (c .found));
         keysAre = c .keysAre;
         spansAre = c .spansAre ∙ sym (length-map (columns (c .table)) (λ (x : Column). x .span));
       }
 
-  module _ (n : ℕ) (is : n ≡ be32 (pg img root) 8) (r : Counted) (s : List ℕ) (f′ : FindsAt whole (SpansFound rule img scr z n) r s) where
-    f : FindsAt whole (SpansFound rule img scr z (be32 (pg img root) 8)) r s
-    f = subst (λ (q : ℕ). FindsAt whole (SpansFound rule img scr z q) r s) is f′
+  module _ (n : ℕ) (is : n ≡ be32 (pg img root) 8) (r : Counted) (s : List ℕ) (f′ : FindsAt whole (SpansFound sort img scr z n) r s) where
+    f : FindsAt whole (SpansFound sort img scr z (be32 (pg img root) 8)) r s
+    f = subst (λ (q : ℕ). FindsAt whole (SpansFound sort img scr z q) r s) is f′
 
     pub columns-no-spans : r ≡ NoSpans → FindsAt columned Cols Broken s
     columns-no-spans e =
@@ -74,7 +75,7 @@ module _ (rule : Rule) (img scr : List ℕ) (lent : Lent img scr) (root z : ℕ)
         omega arith)
 
     module _ (keys spans : ℕ) (e : r ≡ AllSpans keys spans) where
-      found : SpansFound rule img scr z (be32 (pg img root) 8) (record { keys = keys; spans = spans }) s
+      found : SpansFound sort img scr z (be32 (pg img root) 8) (record { keys = keys; spans = spans }) s
       found = f .sound (record { keys = keys; spans = spans }) e
 
       -- what the walk over the towers asks
@@ -129,7 +130,7 @@ module _ (rule : Rule) (img scr : List ℕ) (lent : Lent img scr) (root z : ℕ)
             let y : TowersFound img s (be32 (pg img root) 12) (x .first) (x .others) m t
             = g z (x .first) (x .others)
             (spans-found img scr s n z (x .first) (x .others) lent (x .found) (x .named ∙ sym is)) .sound m h in
-            let o : SpansOk (ruleOf rule) z (x .first) (spansOf (y .rest)) = subst (SpansOk (ruleOf rule) z (x .first)) (sym (y .stands)) (x .ok) in
+            let o : SpansOk (ruleAs sort) z (x .first) (spansOf (y .rest)) = subst (SpansOk (ruleAs sort) z (x .first)) (sym (y .stands)) (x .ok) in
             record {
               table = record { root = root; spanSize = z; first = x .first; head = y .top; rest = y .rest };
               named = refl;
@@ -148,7 +149,6 @@ module _ (rule : Rule) (img scr : List ℕ) (lent : Lent img scr) (root z : ℕ)
                     heights = y .heights;
                     others = y .lower;
                   };
-              sizes = subst (λ (ss : List Span). Every (λ (e : Entry). T (sized rule (length (e .value)))) (entriesIn (x .first ∷ ss))) (sym (y .stands)) (x .fours);
               found = found-join img scr (map span (linkSpans z 0 (x .first ∷ spansOf (y .rest)))) (map tower (linkTowers (record { span = x .first; tower = some (y .top) } ∷ y .rest))) s t
                   (subst (λ (ss : List Span). Found img scr (map span (linkSpans z 0 (x .first ∷ ss))) s) (sym (y .stands)) (x .found)) (y .found);
               keysAre = subst (λ (ss : List Span). keys ≡ length (entriesIn (x .first ∷ ss))) (sym (y .stands)) (x .keysAre);
@@ -183,9 +183,9 @@ skip-single : (img : List ℕ) (k : SkipList) → Single img (skipList k) (k .pa
 unfolding skipMark
 skip-single img k = record { page = refl; mark = λ b. take-begins skipMark (pg img (k .page)) (b .mark) }
 
-module _ (rule : Rule) (img scr : List ℕ) (root : ℕ) where
+module _ (sort : Sort) (img scr : List ℕ) (root : ℕ) where
   abbrev Tab : ℕ → List ℕ → Type 0
-  Tab = TableFound (ruleOf rule) (sized rule) img scr root
+  Tab = TableFound sort img scr root
 
   no-table : (s : List ℕ) → ((m : ℕ) (t : List ℕ) → Tab m t → ⊥) → FindsAt Done Tab Refused s
   no-table s n = finds-none Done Refused s (same-start Tab) refused-never n
@@ -208,10 +208,10 @@ module _ (rule : Rule) (img scr : List ℕ) (root : ℕ) where
       table-size n = no-table s (λ m t f. n (subst (Within 2 128) (sym (on-root m t f .spanSize)) (f .ok .spanSize)))
 
       module _ (z : ℕ) (is : z ≡ be16 (pg img root) 28) (r : Columned) (u : List ℕ)
-          (g : FindsAt columned (ColumnsFound (ruleOf rule) (sized rule) img s root z) r u) where
+          (g : FindsAt columned (ColumnsFound sort img s root z) r u) where
         -- the columns of a table that is found
         columns-of : (m : ℕ) (t : List ℕ) (f : Tab m t)
-            → ColumnsFound (ruleOf rule) (sized rule) img s root z
+            → ColumnsFound sort img s root z
             (record { keys = length (entriesOf (f .table)); spans = length (columns (f .table)); levels = length (towersOf (columns (f .table))) }) t
         columns-of m t f =
             record {
@@ -221,7 +221,6 @@ module _ (rule : Rule) (img scr : List ℕ) (root : ℕ) where
               first = on-root m t f .first;
               level = on-root m t f .level;
               ok = f .ok;
-              sizes = f .sizes;
               found = subst (λ (x : List ℕ). Found img x (map span (spansIn (f .table)) ++ map tower (towersIn (f .table))) t) (sym (claim-done img scr root 1 b s c e .1))
                   (found-rest img scr (skipList (skipListOf (f .table))) root 1 (root-single m t f) (map span (spansIn (f .table)) ++ map tower (towersIn (f .table))) t (f .found));
               keysAre = refl;
@@ -274,7 +273,6 @@ module _ (rule : Rule) (img scr : List ℕ) (root : ℕ) where
                 table = y .table;
                 named = y .named;
                 ok = y .ok;
-                sizes = y .sizes;
                 found = found-cons img scr (skipList (skipListOf (y .table))) root 1
                     (subst (λ (n : ℕ). Single img (skipList (skipListOf (y .table))) n 1) (y .named) (skip-single img (skipListOf (y .table))))
                     (map span (spansIn (y .table)) ++ map tower (towersIn (y .table))) u (d .0)

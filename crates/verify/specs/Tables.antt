@@ -1,26 +1,29 @@
 -- The tables, as their walks find them.
 use Prim.Native.Nat.{ℕ, _+_, _≤_}
 use mathlib.Core.Path.{_≡_}
-use mathlib.Core.Bool.{Bool}
+use mathlib.Core.Bool.{Bool, _&&_}
 use mathlib.Core.List.{List, [], _∷_, _++_, map}
 use lib.ListN.{length}
-use lib.Dec.{T}
+use lib.Dec.{T, eqb}
 use Rattle.blockfile.specs.Bytes.{pg, be16, be32, word32, Every, gather}
 use Rattle.blockfile.specs.Layout.{Keyed, Entry, Table, columns, towersOf, entriesOf}
-use Rattle.blockfile.specs.Order.{KeyRule, nameRule, keyRule}
+use Rattle.blockfile.specs.Order.{nameRule, bytesRule, keyRule}
 use Rattle.blockfile.specs.WellFormed.{span, tower, spansIn, towersIn, TableOk, tablePieces}
 use Rattle.walks.specs.Found.{Found}
+use Rattle.order.specs.declared.sort.Sort.{Sort}
+use Rattle.order.specs.Sorts.{ruleAs}
+use Rattle.entries.specs.declared.place.Place.{Place}
 use Rattle.entries.specs.Places.{IsPage}
+use Rattle.entries.specs.Keys.{KeyAt}
 use Rattle.search.specs.Spans.{Borne, Along}
 use Rattle.verify.specs.declared.table.Columned.{Columned}
 use Rattle.verify.specs.declared.table.Columned.the-variants.{Whole}
 
--- the table on the skip-list page `root`, with m keys; the lengths of its values pass the test
-pub record TableFound (r : KeyRule) (sized : ℕ → Bool) (img scr : List ℕ) (root m : ℕ) (out : List ℕ) : Type 0 where
+-- the table on the skip-list page `root`, whose keys sort so, with m keys
+pub record TableFound (sort : Sort) (img scr : List ℕ) (root m : ℕ) (out : List ℕ) : Type 0 where
   pub table : Table
   pub named : table .root ≡ root
-  pub ok : TableOk r table
-  pub sizes : Every (λ e. T (sized (length (e .value)))) (entriesOf table)
+  pub ok : TableOk (ruleAs sort) table
   pub found : Found img scr (tablePieces table) out
   pub keys : m ≡ length (entriesOf table)
 
@@ -47,15 +50,14 @@ pub record Tally : Type 0 where
   pub spans : ℕ
   pub levels : ℕ
 
--- the spans and towers of the table on the skip-list page `root`, whose span size is z
-pub record ColumnsFound (r : KeyRule) (sized : ℕ → Bool) (img scr : List ℕ) (root z : ℕ) (a : Tally) (out : List ℕ) : Type 0 where
+-- the spans and towers of the table on the skip-list page `root`, whose keys sort so and whose span size is z
+pub record ColumnsFound (sort : Sort) (img scr : List ℕ) (root z : ℕ) (a : Tally) (out : List ℕ) : Type 0 where
   pub table : Table
   pub named : table .root ≡ root
   pub size : table .spanSize ≡ z
   pub first : be32 (pg img root) 8 ≡ table .first .page
   pub level : be32 (pg img root) 12 ≡ table .head .page
-  pub ok : TableOk r table
-  pub sizes : Every (λ e. T (sized (length (e .value)))) (entriesOf table)
+  pub ok : TableOk (ruleAs sort) table
   pub found : Found img scr (map span (spansIn table) ++ map tower (towersIn table)) out
   pub keysAre : a .keys ≡ length (entriesOf table)
   pub spansAre : a .spans ≡ length (columns table)
@@ -70,6 +72,14 @@ pub record CountsAre (b : List ℕ) (keys spans levels : ℕ) : Type 0 where
   pub spansIs : be32 b 20 ≡ spans
   pub levelsIs : be32 b 24 ≡ levels
 
+-- a key may stand in the metaindex, with a value of v bytes: it is a name, and its table's page has four bytes
+abbrev pub isName : (k : List ℕ) (v : ℕ) → Bool
+isName k v = eqb v 4 && nameRule .allowed k
+
+-- whether a key of n bytes, with a value of v bytes, may
+pub record NameAt (img : List ℕ) (at : Place) (n v : ℕ) (r : Bool) : Type 0 where
+  pub is : (k : List ℕ) → KeyAt img at n k → r ≡ isName k v
+
 -- es are the entries of the metaindex's span on the page, from place to place; their keys are not empty
 pub record NamesOn (img : List ℕ) (page : ℕ) (es : List Entry) : Type 0 where
   pub small : length img ≤ 4194304
@@ -82,5 +92,5 @@ pub record NamesOn (img : List ℕ) (page : ℕ) (es : List Entry) : Type 0 wher
 pub record MetaOn (img : List ℕ) (meta : Table) : Type 0 where
   pub small : length img ≤ 4194304
   pub page : meta .root ≡ 2
-  pub ok : TableOk (keyRule []) meta
+  pub ok : TableOk bytesRule meta
   pub borne : Every (Borne img) (tablePieces meta)

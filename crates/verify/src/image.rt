@@ -11,7 +11,9 @@ use crate::table::verify_table;
 use blockfile::Counts;
 use heads::claim::all_claimed;
 use heads::claim::copy_heads;
+use order::sort::Sort;
 use search::table::METAINDEX;
+use search::table::TableRef;
 use walks::Walked;
 
 // Not well-formed, or well-formed with what check counts.
@@ -28,7 +30,11 @@ fn judge(image: &[u8], scratch: &mut [u8]) -> Verdict
     let Started::Begun(first) = verify_superblock(image, scratch) else {
         return Verdict::Bad;
     };
-    let Walked::Done(tables) = verify_table(image, scratch, METAINDEX) else {
+    let meta = TableRef {
+        root: METAINDEX,
+        sort: Sort::Bytes,
+    };
+    let Walked::Done(tables) = verify_table(image, scratch, meta) else {
         return Verdict::Bad;
     };
     let Walked::Done(keys) = verify_tables(image, scratch) else {

@@ -6,24 +6,24 @@ ghost use Rattle.heads.specs.Claims.{Lent};
 ghost use Rattle.walks.specs.Found.{unclaimed, FindsAt};
 ghost use Rattle.walks.specs.declared.Walked.the-variants.{Done};
 ghost use Rattle.entries.specs.Keys.{Key};
-ghost use Rattle.spans.specs.Spans.{Names};
-ghost use Rattle.spans.specs.Entries.{Allowed};
-ghost use Rattle.verify.specs.Tables.{NamesOn, MetaOn, TablesFound};
+ghost use Rattle.verify.specs.Tables.{NameAt, NamesOn, MetaOn, TablesFound};
 use crate::table::verify_table;
 use entries::copy::number;
 use entries::key::printable;
 use entries::place::Place;
 use entries::place::lengths;
+use entries::sorted::sort_at;
 use pages::read::get16;
 use pages::read::get32;
 use reader::place_after;
 use search::table::METAINDEX;
+use search::table::TableRef;
 use walks::Walked;
 
 // Whether a key of the metaindex is a name with a four-byte value.
 fn is_named(image: &[u8], at: Place, key: usize, value: usize) -> bool
     requires { ⌜ Key (now image) at key × (1 ≤ key) × (key ≤ 65535) ⌝ }
-    ensures { λ r. ⌜ Allowed Names (now (image .entry)) at key value r ⌝ }
+    ensures { λ r. ⌜ NameAt (now (image .entry)) at key value r ⌝ }
 {
     if value != 4 {
         return false;
@@ -52,7 +52,8 @@ fn verify_named(image: &[u8], scratch: &mut [u8], page: usize, before: usize) ->
         }
         let value = place_after(image, first, g.key);
         let root = number(image, value);
-        let Walked::Done(n) = verify_table(image, scratch, root) else {
+        let sort = sort_at(image, first, g.key);
+        let Walked::Done(n) = verify_table(image, scratch, TableRef { root, sort }) else {
             return Walked::Refused;
         };
         keys += n;

@@ -5,13 +5,14 @@ ghost use Rattle.pages.specs.Places.{Inside};
 ghost use Rattle.heads.specs.Claims.{Lent};
 ghost use Rattle.walks.specs.Found.{Decides, FindsAt};
 ghost use Rattle.walks.specs.declared.Walked.the-variants.{Done};
-ghost use Rattle.spans.specs.Spans.{Keys, ruleOf, sized};
 ghost use Rattle.verify.specs.Tables.{columned, CountsAre, ColumnsFound, TableFound};
 use heads::claim::claim;
 use pages::mark::SKIP_LIST;
 use pages::read::get16;
 use pages::read::get32;
+use search::table::TableRef;
 use spans::Counted;
+use spans::span::Rules;
 use spans::verify_spans;
 use towers::verify_towers;
 use walks::Walked;
@@ -22,13 +23,13 @@ pub enum Columned {
     Whole(usize, usize, usize),
 }
 
-// Claims and reads the spans and the towers of the table on `root`, whose span size is `most`.
-fn verify_columns(image: &[u8], scratch: &mut [u8], root: usize, most: usize) -> Columned
-    requires { ⌜ Lent (now image) (now scratch) × Inside (now image) root 0 1024 × Within 2 128 most ⌝ }
-    ensures { λ r. ⌜ FindsAt columned (ColumnsFound (ruleOf Keys) (sized Keys) (now (image .entry)) (now (scratch .entry)) root most) r (now (scratch .exit)) ⌝ }
+// Claims and reads the spans and the towers of the table on `root`.
+fn verify_columns(image: &[u8], scratch: &mut [u8], root: usize, rules: Rules) -> Columned
+    requires { ⌜ Lent (now image) (now scratch) × Inside (now image) root 0 1024 × Within 2 128 (rules .most) ⌝ }
+    ensures { λ r. ⌜ FindsAt columned (ColumnsFound (rules .sort) (now (image .entry)) (now (scratch .entry)) root (rules .most)) r (now (scratch .exit)) ⌝ }
 {
     let first = get32(image, root, 8);
-    let Counted::Whole(keys, spans) = verify_spans(image, scratch, first, most) else {
+    let Counted::Whole(keys, spans) = verify_spans(image, scratch, first, rules) else {
         return Columned::Broken;
     };
     let head = get32(image, root, 12);
@@ -55,11 +56,12 @@ fn are_counts(image: &[u8], root: usize, keys: usize, spans: usize, levels: usiz
     true
 }
 
-// Claims and reads the table on `root`; answers its number of keys.
-pub fn verify_table(image: &[u8], scratch: &mut [u8], root: usize) -> Walked
+// Claims and reads the table; answers its number of keys.
+pub fn verify_table(image: &[u8], scratch: &mut [u8], table: TableRef) -> Walked
     requires { ⌜ Lent (now image) (now scratch) ⌝ }
-    ensures { λ r. ⌜ FindsAt Done (TableFound (ruleOf Keys) (sized Keys) (now (image .entry)) (now (scratch .entry)) root) r (now (scratch .exit)) ⌝ }
+    ensures { λ r. ⌜ FindsAt Done (TableFound (table .sort) (now (image .entry)) (now (scratch .entry)) (table .root)) r (now (scratch .exit)) ⌝ }
 {
+    let root = table.root;
     if !claim(scratch, root, SKIP_LIST) {
         return Walked::Refused;
     }
@@ -70,7 +72,9 @@ pub fn verify_table(image: &[u8], scratch: &mut [u8], root: usize) -> Walked
     if 128 < most {
         return Walked::Refused;
     }
-    let Columned::Whole(keys, spans, levels) = verify_columns(image, scratch, root, most) else {
+    let sort = table.sort;
+    let rules = Rules { most, sort };
+    let Columned::Whole(keys, spans, levels) = verify_columns(image, scratch, root, rules) else {
         return Walked::Refused;
     };
     if are_counts(image, root, keys, spans, levels) {

@@ -8,22 +8,21 @@ use denote.Ref.{now}
 use lib.ListN.{length}
 use Rattle.walks.specs.Found.{unclaimed}
 use Rattle.walks.proofs.Founds.{unclaimed-most}
-use Rattle.spans.specs.Spans.{Keys}
 use Rattle.spans.proofs.Chains.{Fell}
 use Rattle.spans.proofs.Tables.{Counting, counting-start, counting-wrong, counting-empty, counting-fell, counting-end, counting-next}
 use Rattle.spans.proofs.walk_spans.Statement.{statement}
 use Rattle.spans.proofs.walk_spans.Tie as tie
 
 abbrev Inv-loop : tie.InvT-loop
-Inv-loop image scratch₀ chart₀ start most page₀ previous₀ last₀ keys₀ spans₀ scratch chart page previous last keys spans =
-    Counting Keys image most scratch₀ start scratch page previous last keys spans × (length chart ≡ length chart₀)
+Inv-loop image scratch₀ chart₀ start rules page₀ previous₀ last₀ keys₀ spans₀ scratch chart page previous last keys spans =
+    Counting (rules .sort) image (rules .most) scratch₀ start scratch page previous last keys spans × (length chart ≡ length chart₀)
 
 abbrev μ-loop : tie.MeasureT-loop
-μ-loop image scratch₀ chart₀ start most page₀ previous₀ last₀ keys₀ spans₀ scratch chart page previous last keys spans =
+μ-loop image scratch₀ chart₀ start rules page₀ previous₀ last₀ keys₀ spans₀ scratch chart page previous last keys spans =
     unclaimed scratch
 
 loop-holds : tie.Need-loop-holds Inv-loop μ-loop
-loop-holds c = let p = c .before .before .before .pre in (counting-start _ _ _ _ _ (p .3) (p .0), omega arith)
+loop-holds c = let p = c .before .before .before .pre in (counting-start _ _ _ _ _ (p .3) (p .4) (p .0), omega arith)
 
 verify-span-requires : tie.Need-verify-span-requires Inv-loop μ-loop
 verify-span-requires c κs =

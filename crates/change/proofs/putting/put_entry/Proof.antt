@@ -5,16 +5,20 @@ use Rattle.change.proofs.putting.put_entry.Statement.{statement}
 use Rattle.change.proofs.putting.put_entry.Tie as tie
 
 abbrev start : tie.After-named-table → tie.Start
-start c = c .before .before .before .before .before .before .before .before .before
+start c = c .before .before .before .before .before .before .before .before .before .before
 
 -- key and value were judged by the rules of put
 judged : (c : tie.After-named-table)
     → let a = start c .args in
-    Judged (a .name .now) (a .key .now) (a .value .now) (c .before .before .is-key .result) (c .before .is-value .result)
-judged c = record { key-is = c .before .before .is-key .ensures _; value-is = c .before .is-value .ensures }
+    Judged (a .name .now) (a .key .now) (a .value .now) (c .before .before .before .before .sort-of .result) (c .before .before .is-key .result) (c .before .is-value .result)
+judged c =
+    record {
+      of-key = record { sorts = c .before .before .before .before .sort-of .ensures; is = c .before .before .is-key .ensures };
+      value-is = c .before .is-value .ensures;
+    }
 
 named-table-requires : tie.Need-named-table-requires
-named-table-requires c κs = let p = c .before .before .before .before .before .before .before .before .pre in (p .lent .layout, p .lent .well)
+named-table-requires c κs = let p = c .before .before .before .before .before .before .before .before .before .pre in (p .lent .layout, p .lent .well)
 
 put-requires : tie.Need-put-requires
 put-requires c κs =
@@ -45,6 +49,7 @@ pub put-entry-spec : {M : Type 1} → statement M
 put-entry-spec =
     tie.close
     (tie.spec
+    (λ c κs. search needs)
     (λ c κs. search needs)
     (λ c κs. search needs)
     named-table-requires

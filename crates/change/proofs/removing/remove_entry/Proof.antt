@@ -1,15 +1,17 @@
 use borrow.Author.Needs.{needs}
 use borrow.Author.Tests.{not-true, not-false}
-use Rattle.change.proofs.Removes.{Judged, remove-refused, remove-ready, remove-done, remove-missing}
+use Rattle.change.proofs.Named.{KeyJudged}
+use Rattle.change.proofs.Removes.{remove-refused, remove-ready, remove-done, remove-missing}
 use Rattle.change.proofs.removing.remove_entry.Statement.{statement}
 use Rattle.change.proofs.removing.remove_entry.Tie as tie
 
 abbrev start : tie.After-named-table → tie.Start
-start c = c .before .before .before .before .before .before .before
+start c = c .before .before .before .before .before .before .before .before
 
 -- the key was judged by the rule of remove
-judged : (c : tie.After-named-table) → let a = start c .args in Judged (a .name .now) (a .key .now) (c .before .is-key .result)
-judged c = record { key-is = c .before .is-key .ensures _ }
+judged : (c : tie.After-named-table)
+    → let a = start c .args in KeyJudged (a .name .now) (a .key .now) (c .before .before .before .sort-of .result) (c .before .is-key .result)
+judged c = record { sorts = c .before .before .before .sort-of .ensures; is = c .before .is-key .ensures }
 
 remove-requires : tie.Need-remove-requires
 remove-requires c κs =
@@ -40,6 +42,7 @@ pub remove-entry-spec : {M : Type 1} → statement M
 remove-entry-spec =
     tie.close
     (tie.spec
+    (λ c κs. search needs)
     (λ c κs. search needs)
     (λ c κs. search needs)
     (λ c. search needs)

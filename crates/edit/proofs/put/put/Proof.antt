@@ -1,8 +1,8 @@
-use denote.Ref.{now}
 use native.Mathlib.Omega.{arith}
 use borrow.Author.Needs.{needs}
+use Rattle.search.proofs.Tables.{target-span}
 use Rattle.edit.proofs.Rewritings.{all-few, conts-ready, counted, conts-near, span-near, tower-near}
-use Rattle.edit.proofs.Puttings.{reading, target-span, change-of, put-planned, put-full, put-carries, put-done}
+use Rattle.edit.proofs.Puttings.{reading, change-of, put-planned, put-full, put-carries, put-done}
 use Rattle.edit.proofs.put.put.Statement.{statement}
 use Rattle.edit.proofs.put.put.Tie as tie
 
@@ -19,10 +19,10 @@ abbrev plan : tie.After-count-conts → tie.After-make-plan
 plan c = c .before .before
 
 find-span-requires : tie.Need-find-span-requires
-find-span-requires c κs = let s = c .before .before .before .before .before in reading (s .pre .is) (now (s .args .key))
+find-span-requires c κs = reading (c .before .before .before .before .before .pre .is)
 
 find-spot-requires : tie.Need-find-spot-requires
-find-spot-requires c κs = let f = c .before in target-span (start f .pre .is) _ _ (f .find-span .ensures)
+find-spot-requires c κs = let f = c .before in target-span (reading (start f .pre .is)) _ _ (f .find-span .ensures)
 
 add-make-plan : tie.Need-add-make-plan
 add-make-plan c = omega arith

@@ -21,7 +21,7 @@ returns : tie.Need-returns
 returns c =
     let four = c .before .before .before .before in
     number-done (four .before .before .before .step .ensures) (four .before .before .step2 .ensures) (four .before .step3 .ensures) (four .step4 .ensures)
-    (c .before .before .before .wide .ensures .0) (c .before .before .wide2 .ensures .0) (c .before .wide3 .ensures .0) (c .wide4 .ensures .0)
+    (c .before .before .before .wide .ensures .0) (c .before .before .wide2 .ensures .0) (c .before .wide3 .ensures .0) (c .wide4 .ensures .0) (omega arith)
 
 pub number-spec : {M : Type 1} → statement M
 number-spec =

@@ -1,7 +1,7 @@
 -- `remove::remove::remove` meets its contract: no such key, the span goes, or it is left with its other entries.
-use denote.Ref.{now}
 use borrow.Author.Needs.{needs}
-use Rattle.edit.proofs.Puttings.{reading, target-span}
+use Rattle.search.proofs.Tables.{target-span}
+use Rattle.edit.proofs.Puttings.{reading}
 use Rattle.remove.proofs.Removals.{linked-on, unlink-ready, leave-ready, not-there, went, stayed}
 use Rattle.remove.proofs.remove.remove.Statement.{statement}
 use Rattle.remove.proofs.remove.remove.Tie as tie
@@ -14,10 +14,10 @@ abbrev spot : tie.Else1 → tie.After-find-spot
 spot c = c .before .before
 
 find-span-requires : tie.Need-find-span-requires
-find-span-requires c κs = let s = c .before .before .before .before in reading (s .pre .is) (now (s .args .key))
+find-span-requires c κs = reading (c .before .before .before .before .pre .is)
 
 find-spot-requires : tie.Need-find-spot-requires
-find-spot-requires c κs = let f = c .before in target-span (start f .pre .is) _ _ (f .find-span .ensures)
+find-spot-requires c κs = let f = c .before in target-span (reading (start f .pre .is)) _ _ (f .find-span .ensures)
 
 returns : tie.Need-returns
 returns c =

@@ -18,7 +18,7 @@ returns c = record {
 get32-requires : tie.Need-get32-requires
 get32-requires c κs =
     let f = c .before .before .before in
-    span-inside (target-span (f .before .before .before .pre) _ _ (f .find-span .ensures)) _ _ (omega arith)
+    span-inside (target-span (f .before .before .before .pre) _ _ (f .find-span .ensures) .on) _ _ (omega arith)
 
 returns-2 : tie.Need-returns-2
 returns-2 c = record {

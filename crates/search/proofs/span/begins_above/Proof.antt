@@ -10,10 +10,10 @@ use Rattle.search.proofs.span.begins_above.Statement.{statement}
 use Rattle.search.proofs.span.begins_above.Tie as tie
 
 get16-requires : tie.Need-get16-requires
-get16-requires c κs = span-inside (c .before .before .pre) _ _ (omega arith)
+get16-requires c κs = span-inside (c .before .before .pre .on) _ _ (omega arith)
 
 returns : tie.Need-returns
-returns c = record { is = λ x. begins-none x _ _ (c .before .get16 .ensures .is) (c .if1 .taken) }
+returns c = record { is = λ x. begins-none (x .on) _ _ (c .before .get16 .ensures .is) (c .if1 .taken) }
 
 -- a span whose size is not 0 has an entry
 some : (c : tie.Else1) → (x : SpanOn (c .before .before .before .before .args .image .now) (c .before .before .before .before .args .page))
@@ -21,33 +21,33 @@ some : (c : tie.Else1) → (x : SpanOn (c .before .before .before .before .args 
 some c x z = c .if1 .left (c .before .get16 .ensures .is ∙ span-size x ∙ z)
 
 lengths-requires : tie.Need-lengths-requires
-lengths-requires c κs = let x = c .before .before .before .before .pre in along-enough (span-entry x (some c x) .along)
+lengths-requires c κs = let x = c .before .before .before .before .pre .on in along-enough (span-entry x (some c x) .along)
 
-compare-slice-requires : tie.Need-compare-slice-requires
-compare-slice-requires c κs =
+compare-as-requires : tie.Need-compare-as-requires
+compare-as-requires c κs =
     let d = c .before .before in
-    let x = d .before .before .before .before .pre in
+    let x = d .before .before .before .before .pre .on in
     entry-key (along-entry (span-entry x (some d x) .along) _ (c .before .lengths .ensures))
 
 returns-2 : tie.Need-returns-2
 returns-2 c = record {
   is = λ x.
       let m = c .before .before in
-      begins-greater x (some (m .before .before .before) x) _ _ (m .before .before .lengths .ensures) _ (m .compare-slice .ensures) (c .enum-told .given .1);
+      begins-greater (x .on) (some (m .before .before .before) (x .on)) _ _ (m .before .before .lengths .ensures) (x .by) _ (m .compare-as .ensures) (c .enum-told .given .1);
 }
 
 returns-3 : tie.Need-returns-3
 returns-3 c = record {
   is = λ x.
       let m = c .before .before in
-      begins-less x (some (m .before .before .before) x) _ _ (m .before .before .lengths .ensures) _ (m .compare-slice .ensures) (c .enum-told2 .given .1);
+      begins-less (x .on) (some (m .before .before .before) (x .on)) _ _ (m .before .before .lengths .ensures) (x .by) _ (m .compare-as .ensures) (c .enum-told2 .given .1);
 }
 
 returns-4 : tie.Need-returns-4
 returns-4 c = record {
   is = λ x.
       let m = c .before .before in
-      begins-equal x (some (m .before .before .before) x) _ _ (m .before .before .lengths .ensures) _ (m .compare-slice .ensures) (c .enum-told3 .given .1);
+      begins-equal (x .on) (some (m .before .before .before) (x .on)) _ _ (m .before .before .lengths .ensures) (x .by) _ (m .compare-as .ensures) (c .enum-told3 .given .1);
 }
 
 pub begins-above-spec : {M : Type 1} → statement M
@@ -57,7 +57,7 @@ begins-above-spec =
     get16-requires
     returns
     lengths-requires
-    compare-slice-requires
+    compare-as-requires
     (λ c. search needs)
     (λ c. search needs)
     (λ c. search needs)

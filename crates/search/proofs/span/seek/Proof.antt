@@ -1,29 +1,29 @@
 -- `search::span::seek` meets its contract: it keeps in step with the entries of every span that is on the page.
 use native.Mathlib.Omega.{arith}
 use borrow.Author.Needs.{needs}
-use Rattle.search.specs.Spans.{SpanOn}
+use Rattle.search.specs.Spans.{SpanBy}
 use Rattle.search.proofs.Entries.{along-enough, entry-key}
 use Rattle.search.proofs.Seeks.{span-inside, Seeking, seeking-start, seeking-end, seeking-open, opened-entry, seeking-next, seeking-here, seeking-above}
 use Rattle.search.proofs.span.seek.Statement.{statement}
 use Rattle.search.proofs.span.seek.Tie as tie
 
 abbrev Inv-loop : tie.InvT-loop
-Inv-loop image page key at₀ left₀ at left = (x : SpanOn image page) → Seeking image (x .rule) key (x .linked .span .entries) at left
+Inv-loop image page sort key at₀ left₀ at left = (x : SpanBy image page sort) → Seeking image (x .on .rule) key (x .on .linked .span .entries) at left
 
 abbrev μ-loop : tie.MeasureT-loop
-μ-loop image page key at₀ left₀ at left = left
+μ-loop image page sort key at₀ left₀ at left = left
 
 get16-requires : tie.Need-get16-requires Inv-loop μ-loop
-get16-requires c κs = span-inside (c .before .before .pre) _ _ (omega arith)
+get16-requires c κs = span-inside (c .before .before .pre .on) _ _ (omega arith)
 
 loop-holds : tie.Need-loop-holds Inv-loop μ-loop
-loop-holds c = seeking-start _ _ (c .get16 .ensures .is)
+loop-holds c x = seeking-start _ _ (c .get16 .ensures .is) (x .on)
 
 lengths-requires : tie.Need-lengths-requires Inv-loop μ-loop
 lengths-requires c κs = along-enough (seeking-open (c .before .loop .inv (c .before .before .before .before .before .pre)) (c .loop-test .taken) .ahead .along)
 
-compare-slice-requires : tie.Need-compare-slice-requires Inv-loop μ-loop
-compare-slice-requires c κs =
+compare-as-requires : tie.Need-compare-as-requires Inv-loop μ-loop
+compare-as-requires c κs =
     let l = c .before .before in
     entry-key (opened-entry (seeking-open (l .before .loop .inv (l .before .before .before .before .before .pre)) (l .loop-test .taken)) _ (c .before .lengths .ensures))
 
@@ -37,16 +37,16 @@ loop-again : tie.Need-loop-again Inv-loop μ-loop
 loop-again c x =
     let m = c .before .before .before .before .before .before in
     let l = m .before in
-    seeking-next (seeking-open (l .before .loop .inv x) (l .loop-test .taken)) _ (m .lengths .ensures) (x .there .order) _
-    (c .before .before .before .before .compare-slice .ensures) (c .before .before .enum-told .given .1) _ (c .place-after .ensures)
+    seeking-next (seeking-open (l .before .loop .inv x) (l .loop-test .taken)) _ (m .lengths .ensures) (x .on .there .order) (x .by) _
+    (c .before .before .before .before .compare-as .ensures) (c .before .before .enum-told .given .1) _ (c .place-after .ensures)
 
 returns : tie.Need-returns Inv-loop μ-loop
 returns c = record {
   is = λ x.
       let m = c .before .before .before .before in
       let l = m .before in
-      seeking-here (seeking-open (l .before .loop .inv x) (l .loop-test .taken)) _ (m .lengths .ensures) (x .there .order) _
-      (c .before .before .compare-slice .ensures) (c .enum-told2 .given .1);
+      seeking-here (seeking-open (l .before .loop .inv x) (l .loop-test .taken)) _ (m .lengths .ensures) (x .on .there .order) (x .by) _
+      (c .before .before .compare-as .ensures) (c .enum-told2 .given .1);
 }
 
 returns-2 : tie.Need-returns-2 Inv-loop μ-loop
@@ -54,8 +54,8 @@ returns-2 c = record {
   is = λ x.
       let m = c .before .before .before .before in
       let l = m .before in
-      seeking-above (seeking-open (l .before .loop .inv x) (l .loop-test .taken)) _ (m .lengths .ensures) (x .there .order) _
-      (c .before .before .compare-slice .ensures) (c .enum-told3 .given .1);
+      seeking-above (seeking-open (l .before .loop .inv x) (l .loop-test .taken)) _ (m .lengths .ensures) (x .on .there .order) (x .by) _
+      (c .before .before .compare-as .ensures) (c .enum-told3 .given .1);
 }
 
 returns-3 : tie.Need-returns-3 Inv-loop μ-loop
@@ -70,7 +70,7 @@ seek-spec =
     get16-requires
     loop-holds
     lengths-requires
-    compare-slice-requires
+    compare-as-requires
     (λ c. search needs)
     (λ c. omega arith)
     place-after-requires

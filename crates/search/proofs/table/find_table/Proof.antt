@@ -1,12 +1,12 @@
 -- `search::table::find_table` meets its contract.
 use borrow.Author.Needs.{needs}
-use Rattle.search.proofs.Readables.{meta-reading}
+use Rattle.search.proofs.Readables.{meta-by}
 use Rattle.search.proofs.Names.{named-none, named-enough, named-root}
 use Rattle.search.proofs.table.find_table.Statement.{statement}
 use Rattle.search.proofs.table.find_table.Tie as tie
 
 find-requires : tie.Need-find-requires
-find-requires c κs = meta-reading _ (c .before .before .pre .0) (c .before .before .pre .1)
+find-requires c κs = meta-by _ (c .before .before .pre .0) (c .before .before .pre .1)
 
 returns : tie.Need-returns
 returns c = record { is = λ L w. named-none _ L w _ _ (c .before .before .find .ensures) (c .enum-told .given .1) }

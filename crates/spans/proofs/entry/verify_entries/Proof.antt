@@ -5,17 +5,16 @@ use mathlib.Core.Path.{refl, subst}
 use borrow.Author.Needs.{needs}
 use Rattle.spans.specs.Entries.{Entering}
 use Rattle.spans.specs.Charts.{Spread}
-use Rattle.spans.specs.Spans.{Keys}
 use Rattle.spans.proofs.Charts.{spread-entered}
 use Rattle.spans.proofs.Runs.{Walking, walking-start, walking-ready, walking-end, walking-no, walking-more}
 use Rattle.spans.proofs.entry.verify_entries.Statement.{statement}
 use Rattle.spans.proofs.entry.verify_entries.Tie as tie
 
 abbrev Inv-loop : tie.InvT-loop
-Inv-loop image scratch chart more left size here₀ rest₀ key₀ i₀ here rest key i = Walking Keys image here₀ key₀ here rest key i × (i ≤ size) × Spread image chart more here rest
+Inv-loop image scratch chart more left size sort here₀ rest₀ key₀ i₀ here rest key i = Walking sort image here₀ key₀ here rest key i × (i ≤ size) × Spread image chart more here rest
 
 abbrev μ-loop : tie.MeasureT-loop
-μ-loop image scratch chart more left size here₀ rest₀ key₀ i₀ here rest key i = size - i
+μ-loop image scratch chart more left size sort here₀ rest₀ key₀ i₀ here rest key i = size - i
 
 loop-holds : tie.Need-loop-holds Inv-loop μ-loop
 loop-holds c = let p = c .before .before .before .pre in (walking-start _ (p .1), omega arith, p .2)

@@ -24,8 +24,8 @@ returns-2 c =
     let d = c .before .before .before in
     entry-over (d .before .before .before .before .before .pre .1) (d .before .gap .ensures) (c .before .before .lengths .ensures) (d .if1 .left) (c .if2 .taken)
 
-above-requires : tie.Need-above-requires
-above-requires c κs =
+is-above-requires : tie.Need-is-above-requires
+is-above-requires c κs =
     let d = c .before .before .before in
     entry-keys (d .before .before .before .before .before .pre .1) (d .before .gap .ensures) (c .before .before .lengths .ensures) (d .if1 .left) (c .if2 .left)
 
@@ -33,7 +33,7 @@ returns-3 : tie.Need-returns-3
 returns-3 c =
     let e = c .before .before in
     let d = e .before .before .before in
-    entry-not (d .before .before .before .before .before .pre .1) (d .before .gap .ensures) (e .before .before .lengths .ensures) (d .if1 .left) (e .if2 .left) (c .before .above .ensures) (not-true _ (c .if3 .taken))
+    entry-not (d .before .before .before .before .before .pre .1) (d .before .gap .ensures) (e .before .before .lengths .ensures) (d .if1 .left) (e .if2 .left) (c .before .is-above .ensures) (not-true _ (c .if3 .taken))
 
 leap-requires : tie.Need-leap-requires
 leap-requires c κs =
@@ -48,10 +48,10 @@ some : (c : tie.Else3) → 1 ≤ c .before .before .before .before .lengths .res
 some c =
     let e = c .before .before in
     let d = e .before .before .before in
-    entry-some (d .before .before .before .before .before .pre .1) (d .before .gap .ensures) (e .before .before .lengths .ensures) (d .if1 .left) (e .if2 .left) (c .before .above .ensures) (not-false _ (c .if3 .left))
+    entry-some (d .before .before .before .before .before .pre .1) (d .before .gap .ensures) (e .before .before .lengths .ensures) (d .if1 .left) (e .if2 .left) (c .before .is-above .ensures) (not-false _ (c .if3 .left))
 
-prefix-most-requires : tie.Need-prefix-most-requires
-prefix-most-requires c κs =
+rank-most-requires : tie.Need-rank-most-requires
+rank-most-requires c κs =
     let f = c .before in
     let e = f .before .before in
     let d = e .before .before .before in
@@ -63,7 +63,7 @@ returns-4 c =
     let e = f .before .before in
     let d = e .before .before .before in
     let z = e .before .before .lengths .ensures in
-    entry-done (d .before .before .before .before .before .pre .1) (d .before .gap .ensures) z (d .if1 .left) (e .if2 .left) (f .before .above .ensures) (not-false _ (f .if3 .left)) (c .before .leap .ensures) (c .prefix-most .ensures) refl
+    entry-done (d .before .before .before .before .before .pre .1) (d .before .gap .ensures) z (d .if1 .left) (e .if2 .left) (f .before .is-above .ensures) (not-false _ (f .if3 .left)) (c .before .leap .ensures) (c .rank-most .ensures) refl
 
 pub verify-entry-spec : {M : Type 1} → statement M
 verify-entry-spec =
@@ -77,12 +77,12 @@ verify-entry-spec =
     (λ c. search needs)
     (λ c. search needs)
     returns-2
-    above-requires
+    is-above-requires
     returns-3
     (λ c. search needs)
     (λ c. search needs)
     leap-requires
-    prefix-most-requires
+    rank-most-requires
     (λ c. search needs)
     (λ c. search needs)
     (λ c. search needs)

@@ -23,19 +23,19 @@ head32-requires : tie.Need-head32-requires
 head32-requires c κs = let p = c .before .before .before .pre in span-in-head (p .1) (p .0) (omega arith)
 
 returns : tie.Need-returns
-returns c = read-other (c .before .before .before .before .before .pre .1) _ _ _ (previous (c .before)) (c .if1 .taken)
+returns c = read-other (c .before .before .before .before .before .pre .1) _ _ (previous (c .before)) (c .if1 .taken)
 
 head16-requires : tie.Need-head16-requires
 head16-requires c κs = let p = c .before .before .before .before .before .pre in span-in-head (p .1) (p .0) (omega arith)
 
 returns-2 : tie.Need-returns-2
-returns-2 c = read-max (c .before .before .before .before .before .before .before .pre .1) _ _ _ (max-keys (c .before)) (c .if2 .taken)
+returns-2 c = read-max (c .before .before .before .before .before .before .before .pre .1) _ _ (max-keys (c .before)) (c .if2 .taken)
 
 head16-requires-2 : tie.Need-head16-requires-2
 head16-requires-2 c κs = let p = c .before .before .before .before .before .before .before .pre in span-in-head (p .1) (p .0) (omega arith)
 
 returns-3 : tie.Need-returns-3
-returns-3 c = read-over (c .before .before .before .before .before .before .before .before .before .pre .1) _ _ _ (size (c .before)) (c .if3 .taken)
+returns-3 c = read-over (c .before .before .before .before .before .before .before .before .before .pre .1) _ _ (size (c .before)) (c .if3 .taken)
 
 verify-entries-requires : tie.Need-verify-entries-requires
 verify-entries-requires c κs = let p = c .before .before .before .before .before .before .before .before .before .pre in (p .0, span-ready (p .1), span-spread (p .1) (p .2))
@@ -43,13 +43,13 @@ verify-entries-requires c κs = let p = c .before .before .before .before .befor
 returns-4 : tie.Need-returns-4
 returns-4 c =
     let d = c .before .before .before .before in
-    read-bad (d .before .before .before .before .before .before .before .before .pre .1) _ _ _ (size d) (c .before .before .verify-entries .ensures) (c .enum-told .given .1)
+    read-bad (d .before .before .before .before .before .before .before .before .pre .1) _ _ (size d) (c .before .before .verify-entries .ensures) (c .enum-told .given .1)
 
 returns-5 : tie.Need-returns-5
 returns-5 c =
     let v = c .before .before .before .before in
     let d = v .before .before in
-    read-spare (d .before .before .before .before .before .before .before .before .pre .1) _ _ _ (size d) (v .verify-entries .ensures) (c .before .before .left .given .1) (c .if4 .taken)
+    read-spare (d .before .before .before .before .before .before .before .before .pre .1) _ _ (size d) (v .verify-entries .ensures) (c .before .before .left .given .1) (c .if4 .taken)
 
 head32-requires-2 : tie.Need-head32-requires-2
 head32-requires-2 c κs =
@@ -61,7 +61,7 @@ returns-6 c =
     let v = c .before .before .before .before .before in
     let d = v .before .before in
     let p = d .before .before .before .before .before .before .before .before .pre in
-    read-done (p .1) _ _ _ (size d) (v .verify-entries .ensures) (c .before .before .before .left .given .1) (c .before .if4 .left) (v .before .if3 .left)
+    read-done (p .1) _ _ (size d) (v .verify-entries .ensures) (c .before .before .before .left .given .1) (c .before .if4 .left) (v .before .if3 .left)
     (max-keys (d .before .before)) (d .before .if2 .left)
     (previous (d .before .before .before .before)) (d .before .before .before .if1 .left)
     (head32-read (p .0) (span-in-head (p .1) (p .0) (omega arith)) (omega arith) (c .head322 .ensures))

@@ -73,8 +73,14 @@ number-requires c κs =
     let l = g .before in
     naming-value (naming l) (l .loop-test .taken) _ (g .lengths .ensures) _ (e .before .is-named .ensures) (passed e) _ (c .place-after .ensures)
 
+sort-at-requires : tie.Need-sort-at-requires Inv-loop μ-loop
+sort-at-requires c κs =
+    let g = c .before .before .before .before .before in
+    let l = g .before in
+    naming-name (naming l) (l .loop-test .taken) _ (g .lengths .ensures)
+
 verify-table-requires : tie.Need-verify-table-requires Inv-loop μ-loop
-verify-table-requires c κs = naming (c .before .before .before .before .before .before .before) .lent
+verify-table-requires c κs = naming (c .before .before .before .before .before .before .before .before) .lent
 
 enum-known-n : tie.Need-enum-known-n Inv-loop μ-loop
 enum-known-n c = search needs
@@ -84,7 +90,7 @@ enum-told c = search needs
 
 -- the loop's place of a table that was read
 abbrev loop-of : tie.After-verify-table Inv-loop μ-loop → tie.In-loop Inv-loop μ-loop
-loop-of took = took .before .before .before .before .before .before .before .before
+loop-of took = took .before .before .before .before .before .before .before .before .before
 
 same-length-2 : tie.Need-same-length-2 Inv-loop μ-loop
 same-length-2 c = let took = c .before .before .before .before in took .verify-table .kept .1 .0 ∙ naming (loop-of took) .long
@@ -92,12 +98,13 @@ same-length-2 c = let took = c .before .before .before .before in took .verify-t
 returns-2 : tie.Need-returns-2 Inv-loop μ-loop
 returns-2 c es h =
     let took = c .before .before .before .before in
-    let root = took .before .before in
+    let sorted = took .before .before in
+    let root = sorted .before in
     let e = root .before .before in
     let g = e .before .before .before in
     let l = g .before in
     naming-no (l .before .loop .inv es h) (l .loop-test .taken) _ (g .lengths .ensures) _ (e .before .is-named .ensures) (passed e) _ (root .before .place-after .ensures) (bytes l)
-    _ (root .number .ensures) _ _ (took .verify-table .ensures) (c .enum-told .given .1)
+    _ (root .number .ensures) _ (sorted .sort-at .ensures) _ _ (took .verify-table .ensures) (c .enum-told .given .1)
 
 add-keys : tie.Need-add-keys Inv-loop μ-loop
 add-keys c =
@@ -107,12 +114,12 @@ add-keys c =
 
 add-place-after : tie.Need-add-place-after Inv-loop μ-loop
 add-place-after c =
-    let g = c .before .before .before .before .before .before .before .before .before .before .before .before .before .lengths .ensures in
+    let g = c .before .before .before .before .before .before .before .before .before .before .before .before .before .before .lengths .ensures in
     omega (arith, g .keyBelow, g .valueBelow)
 
 place-after-requires-2 : tie.Need-place-after-requires-2 Inv-loop μ-loop
 place-after-requires-2 c κs =
-    let g = c .before .before .before .before .before .before .before .before .before .before .before .before .before in
+    let g = c .before .before .before .before .before .before .before .before .before .before .before .before .before .before in
     naming-past (naming (g .before)) (g .before .loop-test .taken) _ (g .lengths .ensures)
 
 sub-left : tie.Need-sub-left Inv-loop μ-loop
@@ -124,12 +131,13 @@ loop-less c = let t = loop-of (c .before .before .before .before .before .before
 loop-again : tie.Need-loop-again Inv-loop μ-loop
 loop-again c es h =
     let took = c .before .before .before .before .before .before .before in
-    let root = took .before .before in
+    let sorted = took .before .before in
+    let root = sorted .before in
     let e = root .before .before in
     let g = e .before .before .before in
     let l = g .before in
     naming-next (l .before .loop .inv es h) (l .loop-test .taken) _ (g .lengths .ensures) _ (e .before .is-named .ensures) (passed e) _ (root .before .place-after .ensures) (bytes l)
-    _ (root .number .ensures) _ _ (took .verify-table .ensures) _ (c .before .before .before .n .given .1) _ (c .place-after2 .ensures)
+    _ (root .number .ensures) _ (sorted .sort-at .ensures) _ _ (took .verify-table .ensures) _ (c .before .before .before .n .given .1) _ (c .place-after2 .ensures)
 
 same-length-3 : tie.Need-same-length-3 Inv-loop μ-loop
 same-length-3 c = c .before .loop .inv _ (c .before .before .before .before .before .pre .1 .1) .long
@@ -151,6 +159,7 @@ verify-named-spec =
     returns
     place-after-requires
     number-requires
+    sort-at-requires
     verify-table-requires
     enum-known-n
     enum-told

@@ -1,10 +1,10 @@
--- `entries::prefix::prefix` meets its contract: eight bytes of the page, or fewer of them.
+-- `entries::rank::prefix` meets its contract: eight bytes of the page, or fewer of them.
 use native.Mathlib.Omega.{arith}
 use borrow.Author.Needs.{needs}
 use Rattle.entries.proofs.Keys.{key-stands}
 use Rattle.entries.proofs.Prefixes.{prefix-whole, prefix-cut}
-use Rattle.entries.proofs.prefix.prefix.Statement.{statement}
-use Rattle.entries.proofs.prefix.prefix.Tie as tie
+use Rattle.entries.proofs.rank.prefix.Statement.{statement}
+use Rattle.entries.proofs.rank.prefix.Tie as tie
 
 returns : tie.Need-returns
 returns c =
