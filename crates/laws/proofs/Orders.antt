@@ -6,7 +6,7 @@ use mathlib.Core.Bool.{Bool, true, false, cond, _&&_, _||_}
 use mathlib.Core.List.{List, [], _∷_}
 use lib.Dec.{T, ltb, eqb, ltb→lt, lt→ltb, eqb→eq, eqb-refl}
 use borrow.Author.Tests.{ltb-false}
-use Rattle.blockfile.specs.Order.{KeyRule, bytesBelow, sign, numbersBelow, same, nameRule, bytesRule, numbersRule, isOffsets, keyRule}
+use Rattle.blockfile.specs.Order.{KeyRule, bytesBelow, sign, same, nameRule, bytesRule, numbersRule, isOffsets, keyRule}
 use Rattle.blockfile.proofs.Bools.{holds, and-both, both-and}
 
 -- a strict total order

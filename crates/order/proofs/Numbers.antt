@@ -1,10 +1,10 @@
 -- Keys as numbers: the claim of `specs/Sorts`, and unsigned numbers that have the order of the keys.
-use Prim.Native.Nat.{ℕ, zero, suc, _+_, _*_, _-_, _%_, _^_, _≤_, _<_}
+use Prim.Native.Nat.{ℕ, suc, _+_, _*_, _-_, _^_, _≤_, _<_}
 use native.Mathlib.Omega.{arith}
 use native.Mathlib.Decide.{decLt}
-use mathlib.Core.Path.{_≡_, refl, ap, sym, _∙_, subst}
+use mathlib.Core.Path.{_≡_, refl, sym, _∙_}
 use mathlib.Core.Logic.{by-cases}
-use mathlib.Core.Bool.{Bool, true, false, cond, _&&_, _||_}
+use mathlib.Core.Bool.{Bool, cond, _&&_, _||_}
 use mathlib.Core.List.{List, [], _∷_}
 use lib.ListN.{length, drop}
 use lib.Dec.{T, ltb, eqb}
@@ -19,7 +19,7 @@ use Rattle.pages.specs.Begins.{lead}
 use Rattle.pages.proofs.Words.{Byte, lead-below}
 use Rattle.order.specs.declared.sort.Sort.{Sort}
 use Rattle.order.specs.declared.sort.Sort.the-variants.{Bytes, Numbers}
-use Rattle.order.specs.Sorts.{numberOf, SortAsNumbers, ruleAs, turn, rank, turned}
+use Rattle.order.specs.Sorts.{SortAsNumbers, ruleAs, turn, rank, turned}
 use Rattle.order.proofs.Leads.{lead-less, lead-on}
 use Rattle.order.proofs.Words.{below-only}
 use Rattle.order.proofs.Sorts.{below-some}

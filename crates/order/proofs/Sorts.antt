@@ -1,23 +1,21 @@
 -- How the keys of a table sort: the sign decides, and else the bytes do; what tells the sort of a table.
-use Prim.Native.Nat.{ℕ, zero, suc, _≤_, _<_}
+use Prim.Native.Nat.{ℕ, _≤_, _<_}
 use native.Mathlib.Omega.{arith}
 use native.Mathlib.Decide.{decLt}
 use mathlib.Core.Path.{_≡_, refl, ap, sym, _∙_, subst}
 use mathlib.Core.Logic.{by-cases}
-use mathlib.Core.Bool.{Bool, true, false, cond, _&&_, _||_}
+use mathlib.Core.Bool.{Bool, true, false, cond}
 use mathlib.Core.List.{List, [], _∷_}
 use lib.ListN.{length, getD}
 use lib.Dec.{T, ltb, eqb}
 use borrow.Author.Tests.{lt-ltb, le-ltb, lt-leb, le-leb, eq-eqb, ne-eqb}
 use Rattle.blockfile.specs.Order.{within, bytesBelow, sign, same, bytesRule, numbersRule, isOffsets, keyRule}
-use Rattle.blockfile.proofs.Bools.{so, not-so, holds, same-eq}
+use Rattle.blockfile.proofs.Bools.{so, not-so, same-eq}
 use Rattle.laws.proofs.Orders.{Ordered, bytes-ordered, numbers-ordered}
-use Rattle.order.specs.declared.bytes.Order.{Order}
 use Rattle.order.specs.declared.bytes.Order.the-variants.{Less, Equal, Greater}
 use Rattle.order.specs.declared.sort.Sort.{Sort}
 use Rattle.order.specs.declared.sort.Sort.the-variants.{Bytes, Numbers}
 use Rattle.order.specs.Bytes.{order}
-use Rattle.order.specs.declared.sort.Lengths.{Lengths}
 use Rattle.order.specs.Sorts.{sortOf, ruleAs, orderAs, signAs, LengthsAre}
 
 -- ---- The rule of a table

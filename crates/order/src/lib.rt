@@ -1,3 +1,3 @@
-// The order of byte strings: by unsigned bytes, a proper prefix first, compared eight bytes at a time.
+// The orders of keys: byte strings compared eight bytes at a time, and how the keys of a table sort.
 pub mod bytes;
 pub mod sort;

@@ -9,7 +9,6 @@ use lib.Seq.{drop-drop, take-nil, getD-drop, slice, length-take-le}
 use lib.Dec.{T}
 use Rattle.blockfile.specs.Bytes.{be16, Every}
 use Rattle.blockfile.specs.Layout.{Entry, lensAt, entryEnd, entriesEnd}
-use Rattle.blockfile.specs.Order.{bytesBelow}
 use Rattle.blockfile.specs.Fields.{EntriesAt}
 use Rattle.laws.proofs.Numbers.{be16-agree}
 use Rattle.laws.proofs.Positions.{lens-cases, entries-after}

@@ -8,13 +8,12 @@ use mathlib.Core.Bool.{Bool, true, false, cond, _&&_}
 use mathlib.Core.List.{List, [], _∷_}
 use lib.ListN.{length, take, drop, getD, length-drop}
 use lib.Seq.{drop-drop}
-use lib.Dec.{T, ltb, eqb, eqb→eq, ltb→lt}
+use lib.Dec.{T, ltb, eqb→eq}
 use borrow.Author.Tests.{ltb-true, ltb-false, eq-eqb, ne-eqb, lt-ltb, le-ltb}
-use Rattle.blockfile.specs.Bytes.{pg, be16, be32, Every}
+use Rattle.blockfile.specs.Bytes.{pg, be16, be32}
 use Rattle.blockfile.specs.Order.{bytesBelow, numbersBelow}
 use Rattle.blockfile.proofs.Bools.{so, not-so, and-both, both-and}
 use Rattle.pages.specs.Places.{Number}
-use Rattle.pages.proofs.Words.{Byte}
 use Rattle.entries.specs.declared.place.Place.{Place}
 use Rattle.entries.specs.declared.place.Sizes.{Sizes}
 use Rattle.order.specs.declared.bytes.Order.{Order}
@@ -37,9 +36,8 @@ use Rattle.spans.specs.declared.entry.Last.{Last}
 use Rattle.spans.specs.declared.entry.Entered.{Entered}
 use Rattle.spans.specs.declared.entry.Entered.the-variants.{Bad, Read}
 use Rattle.spans.specs.declared.entry.Tried.{Tried}
-use Rattle.spans.specs.declared.entry.Tried.the-variants.{Left, On}
+use Rattle.spans.specs.declared.entry.Tried.the-variants.{On}
 use Rattle.spans.specs.declared.entry.Passed.{Passed}
-use Rattle.spans.specs.declared.entry.Skimmed.{Skimmed}
 use Rattle.spans.specs.Entries.{fits, fourAs, LastIs, Met, IsAbove, skip, keyLength, valueLength, keyOf, taken, Run, Ready, Ended, Ends, Entering, onPage, lastAt, OnPage, Tries, Skimming, Skims}
 use Rattle.spans.proofs.Sorts.{fits-key, both-fit}
 use Rattle.spans.proofs.Rules.{allowed-four, four-allowed, lengths-allow}

@@ -1,7 +1,7 @@
 -- The spans of a table that a walk finds: the text's rules on spans, and the pages they own.
 use Prim.Native.Nat.{ℕ, _+_, _≤_}
 use mathlib.Core.Path.{_≡_}
-use mathlib.Core.List.{List, [], _∷_, map}
+use mathlib.Core.List.{List, _∷_, map}
 use lib.ListN.{length}
 use lib.Dec.{T}
 use Rattle.blockfile.specs.Bytes.{Every, gather}

@@ -45,8 +45,8 @@ pub enum Tried {
     On(usize, usize),
 }
 
-// Entries that were passed on a page: their number, the offsets where the last one begins and ends, and the rank of its key; without one,
-// the offset from which on, and the rank of the key before.
+// Entries that were passed on a page: their number, the offsets where the last one begins and ends, and the rank of its key. Without
+// one, both offsets are where the first would begin, and the rank is that of the last key met.
 pub struct Passed {
     pub count: usize,
     pub before: usize,
@@ -100,8 +100,8 @@ fn is_above(image: &[u8], sort: Sort, last: Last, at: Place, key: usize) -> bool
     ensures { λ r. ⌜ IsAbove sort (now (image .entry)) last at key r ⌝ }
 {
     match sort {
-        Sort::Bytes => above_bytes(image, last, at, key),
         Sort::Numbers => above_number(image, last, at, key),
+        Sort::Bytes => above_bytes(image, last, at, key),
     }
 }
 
@@ -188,8 +188,8 @@ fn verify_entry(
     )
 }
 
-// Tries the entry that follows. It is read if it lies on the page whole, with eight bytes from the start of its key on, its key is as long
-// as `allowed` has it, and its rank is above `high`; else it is left.
+// Tries the entry that follows. It is read if it lies on the page whole, with eight bytes from the start of its key on, if its key is
+// as long as `allowed` has it, and if its rank is above `high`; else it is left.
 fn try_entry(image: &[u8], at: Place, sort: Sort, allowed: Lengths, high: usize) -> Tried
     requires { ⌜ Enough (now image) at 0 × LengthsAre sort allowed ⌝ }
     ensures { λ r. ⌜ Tries sort (now (image .entry)) at high r ⌝ }
@@ -256,8 +256,8 @@ fn conclude(image: &[u8], at: Place, left: usize, last: Last, passed: Passed) ->
     }
 }
 
-// Reads entries, at most `size` of them, up to one that does not lie on the page whole or whose rank does not tell its order. Only offsets
-// and the rank change from entry to entry, so that all of it stays in registers; the rest is told at the end.
+// Reads entries, at most `size` of them, up to one that does not lie on the page whole or whose rank does not tell its order. Only
+// offsets, a count and the rank change from entry to entry, so that all of it stays in registers; the rest is told at the end.
 fn skim(image: &[u8], at: Place, left: usize, size: usize, sort: Sort, last: Last) -> Skimmed
     requires { ⌜ Ready sort (now image) at left last ⌝ }
     ensures { λ r. ⌜ Skims sort (now (image .entry)) at last size r ⌝ }
@@ -287,6 +287,14 @@ fn skim(image: &[u8], at: Place, left: usize, size: usize, sort: Sort, last: Las
     conclude(image, at, left, last, passed)
 }
 
+// How many of the `left` entries that follow a key of this rank are skimmed: none where the key before has the same rank, since the
+// next one then likely has it too and would be left.
+fn run_after(before: usize, rank: usize, left: usize) -> usize
+    ensures { λ r. ⌜ r ≤ left ⌝ }
+{
+    if before == rank { 0 } else { left }
+}
+
 // Reads `size` entries.
 pub fn verify_entries(
     image: &[u8],
@@ -305,9 +313,10 @@ pub fn verify_entries(
     let mut here = at;
     let mut rest = left;
     let mut key = last;
+    let mut run = size;
     let mut i = 0;
     while i < size {
-        let s = skim(image, here, rest, size - i, sort, key);
+        let s = skim(image, here, rest, run, sort, key);
         let n = s.count;
         let p = s.at;
         let k = s.last;
@@ -322,6 +331,7 @@ pub fn verify_entries(
         rest = m;
         key = h;
         i += n + 1;
+        run = run_after(k.rank, h.rank, size - i);
     }
     Entered::Read(here, rest, key)
 }

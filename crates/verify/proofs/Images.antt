@@ -7,13 +7,12 @@ use mathlib.Core.Bool.{Bool, true, false, cond, true≢false}
 use mathlib.Core.List.{List, [], _∷_, _++_, map}
 use lib.ListN.{length, length-map}
 use lib.Dec.{T, leb, le→leb}
-use borrow.Author.Tests.{le-leb}
 use Rattle.blockfile.specs.declared.Counts.{Counts}
 use Rattle.blockfile.specs.Bytes.{pg, Every, gather}
 use Rattle.blockfile.specs.Layout.{Keyed, Entry, Table, Block, Layout, entriesOf, freeCount}
 use Rattle.blockfile.specs.Order.{Within, within, allWithin, KeyRule, nameRule, bytesRule, keyRule, Rising}
 use Rattle.blockfile.specs.WellFormed.{Piece, superblock, pagesOf, Bears, TableOk, tablePieces, freePieces, firstBlock, pieces, WellFormed}
-use Rattle.blockfile.proofs.Bools.{holds, and-both, both-and, within-is}
+use Rattle.blockfile.proofs.Bools.{and-both, both-and, within-is}
 use Rattle.blockfile.proofs.Every.{every-so}
 use Rattle.heads.specs.Claims.{pagesIn, Room, Lent, Headed, full}
 use Rattle.heads.proofs.Claims.{room-long}

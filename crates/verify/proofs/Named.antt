@@ -35,7 +35,7 @@ use Rattle.entries.proofs.Keys.{key-length}
 use Rattle.search.proofs.Entries.{bytes-key, bytes-enough, bytes-length, along-enough, along-entry, entry-key, borne-along}
 use Rattle.order.specs.declared.sort.Sort.{Sort}
 use Rattle.order.specs.Sorts.{sortOf, ruleAs}
-use Rattle.order.proofs.Sorts.{rule-as}
+use Rattle.order.proofs.Sorts.{rule-by}
 use Rattle.entries.specs.Sorted.{SortAt}
 use Rattle.spans.specs.Spans.{entriesIn}
 use Rattle.towers.proofs.Heads.{span-few}
@@ -156,7 +156,7 @@ module _ (img scr : List ℕ) (lent : Lent img scr) (e : Entry) (es : List Entry
     (sort : Sort) (by : sort ≡ sortOf (e .key)) where
   -- the rule of the first table is its name's
   rule-of : keyRule (e .key) ≡ ruleAs sort
-  rule-of = rule-as (e .key) ∙ ap ruleAs (sym by)
+  rule-of = sym (rule-by (e .key) by)
 
   -- the first table, and the others after it
   record Parted (m : ℕ) (out : List ℕ) : Type 0 where

@@ -6,10 +6,9 @@ use mathlib.Core.Bool.{Bool, true, false, true≢false}
 use mathlib.Core.Option.{some}
 use mathlib.Core.List.{List, _∷_, _++_, map}
 use lib.ListN.{length, length-map}
-use lib.Dec.{T}
 use Rattle.blockfile.specs.Bytes.{pg, be16, be32, Every, gather}
 use Rattle.blockfile.specs.Marks.{skipMark}
-use Rattle.blockfile.specs.Layout.{Entry, Span, Column, columns, spansOf, towersOf, entriesOf}
+use Rattle.blockfile.specs.Layout.{Span, Column, columns, spansOf, towersOf, entriesOf}
 use Rattle.blockfile.specs.Order.{Within}
 use Rattle.blockfile.specs.Fields.{SkipList, IsSkipList}
 use Rattle.blockfile.specs.WellFormed.{span, tower, skipList, pagesOf, linkSpans, linkTowers, spansIn, towersIn, skipListOf}

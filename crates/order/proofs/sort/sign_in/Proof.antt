@@ -2,7 +2,7 @@
 use native.Mathlib.Omega.{arith}
 use mathlib.Core.Path.{refl}
 use borrow.Author.Needs.{needs}
-use Rattle.order.proofs.Sorts.{sign-bytes, sign-none, sign-some}
+use Rattle.order.proofs.Sorts.{sign-none, sign-some}
 use Rattle.order.proofs.sort.sign_in.Statement.{statement}
 use Rattle.order.proofs.sort.sign_in.Tie as tie
 

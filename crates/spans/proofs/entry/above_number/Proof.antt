@@ -1,6 +1,5 @@
 -- `spans::entry::above_number` meets its contract.
 use native.Mathlib.Omega.{arith}
-use borrow.Author.Needs.{needs}
 use Rattle.spans.proofs.Runs.{four-enough, last-enough, not-four, first-above, number-above, not-number-above}
 use Rattle.spans.proofs.entry.above_number.Statement.{statement}
 use Rattle.spans.proofs.entry.above_number.Tie as tie

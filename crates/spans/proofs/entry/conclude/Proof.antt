@@ -1,5 +1,4 @@
 -- `spans::entry::conclude` meets its contract.
-use Prim.Native.Nat.{_≤_}
 use native.Mathlib.Omega.{arith}
 use borrow.Author.Needs.{needs}
 use Rattle.spans.proofs.Runs.{skims-none, skims-there, skims-left, skims-some}

@@ -2,7 +2,6 @@
 use Prim.Native.Nat.{_-_, _≤_}
 use native.Mathlib.Omega.{arith}
 use borrow.Author.Needs.{needs}
-use Rattle.order.specs.Sorts.{LengthsAre}
 use Rattle.spans.specs.Entries.{Skimming}
 use Rattle.spans.proofs.Runs.{skimming-start, skimming-enough, skimming-more}
 use Rattle.spans.proofs.entry.skim.Statement.{statement}

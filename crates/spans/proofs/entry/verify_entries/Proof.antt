@@ -11,13 +11,14 @@ use Rattle.spans.proofs.entry.verify_entries.Statement.{statement}
 use Rattle.spans.proofs.entry.verify_entries.Tie as tie
 
 abbrev Inv-loop : tie.InvT-loop
-Inv-loop image scratch chart more left size sort here₀ rest₀ key₀ i₀ here rest key i = Walking sort image here₀ key₀ here rest key i × (i ≤ size) × Spread image chart more here rest
+Inv-loop image scratch chart more left size sort here₀ rest₀ key₀ run₀ i₀ here rest key run i =
+    Walking sort image here₀ key₀ here rest key i × (i ≤ size) × Spread image chart more here rest × (run ≤ size - i)
 
 abbrev μ-loop : tie.MeasureT-loop
-μ-loop image scratch chart more left size sort here₀ rest₀ key₀ i₀ here rest key i = size - i
+μ-loop image scratch chart more left size sort here₀ rest₀ key₀ run₀ i₀ here rest key run i = size - i
 
 loop-holds : tie.Need-loop-holds Inv-loop μ-loop
-loop-holds c = let p = c .before .before .before .pre in (walking-start _ (p .1), omega arith, p .2)
+loop-holds c = let p = c .before .before .before .pre in (walking-start _ (p .1), omega arith, p .2, omega arith)
 
 skim-requires : tie.Need-skim-requires Inv-loop μ-loop
 skim-requires c κs = walking-ready (c .before .loop .inv .0)
@@ -43,14 +44,16 @@ returns-2 c =
 
 loop-again : tie.Need-loop-again Inv-loop μ-loop
 loop-again c =
-    let e = c .before .before .before in
+    let d = c .before in
+    let e = d .before .before .before in
     let s = e .before .before .before .before in
     let v = s .before .before .loop .inv in
     let w = walking-more (v .0) (s .skim .ensures .read) refl refl in (
-      walking-more w (e .verify-entry .ensures) (c .before .q .given .1) (omega arith),
+      walking-more w (e .verify-entry .ensures) (d .before .q .given .1) (omega arith),
       omega (arith, e .before .if1 .left, v .1),
       spread-entered (spread-entered (v .2) (walking-ready (v .0) .key) (s .skim .ensures .read)) (walking-ready w .key)
-          (subst (Entering _ _ _ _ 1) (c .before .q .given .1) (e .verify-entry .ensures)),
+          (subst (Entering _ _ _ _ 1) (d .before .q .given .1) (e .verify-entry .ensures)),
+      c .run-after .ensures,
     )
 
 returns-3 : tie.Need-returns-3 Inv-loop μ-loop
@@ -63,7 +66,6 @@ verify-entries-spec =
     Inv-loop
     μ-loop
     loop-holds
-    (λ c. omega arith)
     skim-requires
     (λ c. omega arith)
     returns
@@ -74,5 +76,7 @@ verify-entries-spec =
     (λ c. let e = c .before .before .before .before in let l = e .before .before .before .before .before in omega (arith, e .if1 .left, l .before .before .before .before .fits))
     (λ c. let e = c .before .before .before .before in let l = e .before .before .before .before .before in omega (arith, e .if1 .left, l .before .before .before .before .fits, l .loop .inv .1))
     (λ c. omega (arith, c .before .before .before .before .if1 .left))
+    (λ c κs. search needs)
+    (λ c. omega (arith, c .before .before .before .before .before .if1 .left))
     loop-again
     returns-3)
