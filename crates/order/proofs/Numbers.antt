@@ -6,7 +6,7 @@ use mathlib.Core.Path.{_≡_, refl, sym, _∙_}
 use mathlib.Core.Logic.{by-cases}
 use mathlib.Core.Bool.{Bool, cond, _&&_, _||_}
 use mathlib.Core.List.{List, [], _∷_}
-use lib.ListN.{length, drop}
+use lib.ListN.{length, drop-of-length-le}
 use lib.Dec.{T, ltb, eqb}
 use lib.Signed.{ltZ}
 use mir.Syntax.{w32}
@@ -48,14 +48,6 @@ sign-lead (x ∷ k) e h =
     let w : 2147483648 ≤ x * 2 ^ 24 + lead 3 k = omega arith in
     rw (le-ltb x 0x80 v, le-ltb (x * 2 ^ 24 + lead 3 k) 2147483648 w))
 
-none-left : (k : List ℕ) → length k ≡ 4 → drop 4 k ≡ []
-none-left [] e = refl
-none-left (a ∷ []) e = refl
-none-left (a ∷ b ∷ []) e = refl
-none-left (a ∷ b ∷ c ∷ []) e = refl
-none-left (a ∷ b ∷ c ∷ d ∷ []) e = refl
-none-left (a ∷ b ∷ c ∷ d ∷ x ∷ k) e = absurd (omega arith)
-
 -- their order by bytes is that of the unsigned numbers
 four-below : (k l : List ℕ) → length k ≡ 4 → length l ≡ 4 → Every Byte k → Every Byte l → bytesBelow k l ≡ ltb (lead 4 k) (lead 4 l)
 four-below k l e f h g =
@@ -66,7 +58,7 @@ four-below k l e f h g =
     (λ nor.
     let is : lead 4 k ≡ lead 4 l = omega (arith, not, nor) in
     let o = lead-on 4 k l h g (omega arith) (omega arith) is .0 in
-    sym o ∙ rw (none-left k e, none-left l f) (sym (le-ltb (lead 4 k) (lead 4 l) w))))
+    sym o ∙ rw (drop-of-length-le k {i = 4} (omega (arith, e)), drop-of-length-le l {i = 4} (omega (arith, f))) (sym (le-ltb (lead 4 k) (lead 4 l) w))))
 
 -- ---- The order of two signed numbers, by the sign and then as unsigned ones
 

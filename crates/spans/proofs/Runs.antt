@@ -38,7 +38,7 @@ use Rattle.spans.specs.declared.entry.Entered.the-variants.{Bad, Read}
 use Rattle.spans.specs.declared.entry.Tried.{Tried}
 use Rattle.spans.specs.declared.entry.Tried.the-variants.{On}
 use Rattle.spans.specs.declared.entry.Passed.{Passed}
-use Rattle.spans.specs.Entries.{fits, fourAs, LastIs, Met, IsAbove, skip, keyLength, valueLength, keyOf, taken, Run, Ready, Ended, Ends, Entering, onPage, lastAt, OnPage, Tries, Skimming, Skims}
+use Rattle.spans.specs.Entries.{fits, fourAs, LastIs, Met, IsAbove, skip, keyLength, valueLength, keyOf, taken, Run, Ready, Ended, Ends, Entering, onPage, lastAt, ReadOnPage, Tries, Skimming, Skims}
 use Rattle.spans.proofs.Sorts.{fits-key, both-fit}
 use Rattle.spans.proofs.Rules.{allowed-four, four-allowed, lengths-allow}
 
@@ -191,9 +191,6 @@ module _ {sort : Sort} {img : List ℕ} {at : Place} {left : ℕ} {l : Last} (r 
         pub entry-keys : Met sort img l × Key img (z .after) (z .key)
         entry-keys = (record { low = r .low; key = r .key }, record { key = keyOf (r .bytes); there = entry-key })
 
-        pub entry-forward : Enough img (z .after) (z .key + z .value)
-        entry-forward = record { bytes = drop (skip (r .bytes) + 4) (r .bytes); rest = there; long = rw length-drop (omega (arith, g-is, r .long)) }
-
         module _ {a : Bool} (c : IsAbove sort img l (z .after) (z .key) a) where
           a-is : a ≡ (fourAs sort (z .key) && ruleAs sort .below (r .low) (keyOf (r .bytes)))
           a-is = c .is (r .low) (keyOf (r .bytes)) (r .key) entry-key
@@ -267,7 +264,7 @@ module _ {img : List ℕ} {at : Place} (e : Enough img at 0) (eight : at .offset
         let long = key-length (q .there) in
         subst (λ (n : ℕ). T (fourAs sort n)) long (allowed-four sort (q .key) (lengths-allow are (q .key) (omega (arith, long)) (omega (arith, long))))
 
-    pub here-read : ((i : ℕ) → getD img i 0 < 256) → {high p : ℕ} → Ranked sort img (onPage at (at .offset + 4)) k p → high < p → OnPage sort img at high (at .offset + 4 + k + v) p
+    pub here-read : ((i : ℕ) → getD img i 0 < 256) → {high p : ℕ} → Ranked sort img (onPage at (at .offset + 4)) k p → high < p → ReadOnPage sort img at high (at .offset + 4 + k + v) p
     here-read bytes {high} {p} ranked h =
         record {
           some = omega arith;
@@ -383,7 +380,7 @@ module _ {sort : Sort} {img : List ℕ} {at : Place} {left : ℕ} {last : Last} 
   pub skimming-more : {a : Tried} → Tries sort img (onPage at end) rank a → {e q : ℕ} → a ≡ On e q
       → Skimming sort img at left last (record { count = count + 1; before = end; end = e; rank = q })
   skimming-more t {e} {q} is =
-      let o : OnPage sort img (onPage at end) rank e q = subst (Tries sort img (onPage at end) rank) is t .is in
+      let o : ReadOnPage sort img (onPage at end) rank e q = subst (Tries sort img (onPage at end) rank) is t .is in
       let less : left - (end - at .offset) - (e - end) ≡ left - (e - at .offset) = omega (arith, o .some, w .low) in
       let read = walking-more skimming-walk (o .read (left - (end - at .offset)) (w .key) (walking-ready skimming-walk) (w .ranked)) refl refl in
       record {

@@ -117,7 +117,7 @@ abbrev pub lastAt : (img : List ℕ) → Place → (rank : ℕ) → Last
 lastAt img at r = record { at = onPage at (at .offset + 4); length = be16 (pg img (at .page)) (at .offset); rank = r }
 
 -- the entry at the place is read, behind a last key of rank high: it ends at this offset of the page, and its key has this rank
-pub record OnPage (sort : Sort) (img : List ℕ) (at : Place) (high end rank : ℕ) : Type 0 where
+pub record ReadOnPage (sort : Sort) (img : List ℕ) (at : Place) (high end rank : ℕ) : Type 0 where
   pub some : at .offset + 4 ≤ end
   pub inside : end ≤ 1024
   pub read : (left : ℕ) (l : Last) → Ready sort img at left l → l .rank ≡ high
@@ -126,7 +126,7 @@ pub record OnPage (sort : Sort) (img : List ℕ) (at : Place) (high end rank : �
 -- an entry that was tried: nothing is said of one that was left
 abbrev pub Trying : Sort → (img : List ℕ) (at : Place) (high : ℕ) → Tried → Type 0
 Trying sort img at high Left = Unit {0}
-Trying sort img at high (On end rank) = OnPage sort img at high end rank
+Trying sort img at high (On end rank) = ReadOnPage sort img at high end rank
 
 pub record Tries (sort : Sort) (img : List ℕ) (at : Place) (high : ℕ) (r : Tried) : Type 0 where
   pub is : Trying sort img at high r
