@@ -14,6 +14,7 @@ use crate::reached::{self, held, Cases, Made};
 use crate::request::{Call, CallKind};
 use crate::script::{self, Script, Trend};
 use crate::sort::Sort;
+use crate::towers::links;
 use std::collections::BTreeMap;
 
 /// How many calls a list has.
@@ -81,6 +82,7 @@ const LIVES: [&str; 25] = [
 pub fn all() -> Vec<String> {
     let fixed = CREATES.iter().chain(&LIVES).map(|case| (*case).to_owned());
     let towers = (0..=HIGHEST).map(putting::new_tower);
+    let towers = towers.chain(links::all_new(Sort::Bytes));
     let names = reached::with_page_ends(&putting::JOINING, towers);
     let names = names.iter().map(|case| in_metaindex(case));
     fixed.chain(names).collect()
@@ -191,6 +193,7 @@ fn full_metaindex(span_size: u16, tables: usize) -> Knobs {
         spans: 0..=0,
         span_sizes: vec![span_size],
         fill: fill..=fill,
+        high: 20,
         crowded: 50,
         ..Knobs::tiny()
     }

@@ -18,6 +18,7 @@ use crate::reached::Cases;
 use crate::request::{CallKind, Request};
 use crate::rule::Rule;
 use crate::script::{self, Script, Trend};
+use crate::towers::agree;
 use std::collections::BTreeMap;
 
 /// How many calls a list has.
@@ -34,6 +35,8 @@ pub struct Tally {
     pub emptying: Cases,
     /// What the lists on offset tables reached.
     pub offsets: Cases,
+    /// What the searches by towers reached.
+    pub searches: Cases,
     /// Damaged images by rule.
     pub damaged: BTreeMap<Rule, Damaged>,
     /// Images with some bytes set anew that were accepted, and that were rejected.
@@ -57,7 +60,8 @@ pub struct Failure {
     pub what: String,
 }
 
-/// Runs `count` lists of each kind and damaged images, for the seeds from `seed` on.
+/// Runs `count` lists of each kind, damaged images and images that are searched, for the seeds from `seed`
+/// on.
 pub fn fuzz(seed: u64, count: u64) -> Result<Tally, Failure> {
     let mut tally = Tally::default();
     for seed in (0..count).map(|step| seed.wrapping_add(step)) {
@@ -66,6 +70,7 @@ pub fn fuzz(seed: u64, count: u64) -> Result<Tally, Failure> {
         run_emptying(seed, &mut tally).map_err(failure)?;
         run_offsets(seed, &mut tally).map_err(failure)?;
         run_damage(seed, &mut tally).map_err(failure)?;
+        add_all(&mut tally.searches, agree::searches(seed, 1)?);
     }
     Ok(tally)
 }

@@ -38,6 +38,8 @@ pub struct Knobs {
     pub long_length: RangeInclusive<usize>,
     /// Of a hundred spans, how many have a tower where that is possible.
     pub towers: usize,
+    /// Of a hundred heads, how many have the greatest max height, with any current up to it.
+    pub high: usize,
     /// Of a hundred images, how many have no page or few pages free.
     pub crowded: usize,
 }
@@ -62,6 +64,7 @@ impl Knobs {
             long: 5,
             long_length: 900..=3000,
             towers: 50,
+            high: 0,
             crowded: 60,
         }
     }
@@ -88,6 +91,7 @@ impl Knobs {
             long: 6,
             long_length: 500..=5000,
             towers: 50,
+            high: 0,
             crowded: 50,
         }
     }
@@ -132,6 +136,20 @@ impl Knobs {
         }
     }
 
+    /// Towers as no put makes them, in the metaindex too, which has many names: most heads are high, and
+    /// over any of their levels there are towers and spans without one.
+    pub fn odd_towers() -> Knobs {
+        Knobs {
+            pages: 30..=120,
+            tables: 1..=16,
+            spans: 1..=16,
+            span_sizes: vec![2, 2, 3],
+            towers: 70,
+            high: 60,
+            ..Knobs::full_of_towers()
+        }
+    }
+
     /// Images of 12 to 40 pages with many towers and many entries over several pages.
     pub fn towers_long() -> Knobs {
         Knobs {
@@ -172,7 +190,8 @@ impl Knobs {
             0..=64 => Knobs::tiny(),
             65..=124 => Knobs::mixed(),
             125..=149 => Knobs::many_small(),
-            150..=179 => Knobs::full_of_towers(),
+            150..=171 => Knobs::full_of_towers(),
+            172..=179 => Knobs::odd_towers(),
             180..=190 => Knobs::long_free_list(),
             191..=198 => Knobs::few_large(),
             _ => Knobs::big(),
@@ -222,11 +241,10 @@ pub fn full_spans(
     let names = names(random, 1);
     let sort = Sort::of(&names[0]);
     let meta = draft(random, &knobs, names, true, 2 * TABLE_PAGES);
-    let height = random.within(0..=max.min(12));
     let mut table = Table {
         root: 0,
         span_size,
-        head: tower(max, height),
+        head: full_head(random, max),
         spans: Vec::new(),
     };
     for place in 0..spans {
@@ -249,6 +267,12 @@ pub fn full_spans(
     let pages = used(&meta, &tables) + free;
     let layout = number(random, &[span_size], pages, meta, tables);
     over_garbage(random, layout)
+}
+
+/// A head of this max height; half of them are no higher than that of a created table can be.
+fn full_head(random: &mut Random, max: usize) -> Tower {
+    let most = *random.pick(&[max, max.min(12)]);
+    tower(max, random.within(0..=most))
 }
 
 /// Key `place` of so many: odd numbers, so that there is room between them; in an offset table half of
@@ -374,7 +398,7 @@ fn draft(
     let mut table = Table {
         root: 0,
         span_size: *random.pick(&knobs.span_sizes),
-        head: draft_head(random),
+        head: draft_head(random, knobs),
         spans: Vec::new(),
     };
     let most = usize::from(table.span_size);
@@ -416,8 +440,11 @@ fn shrink(table: &mut Table, budget: usize) {
 }
 
 /// A head of any legal height.
-fn draft_head(random: &mut Random) -> Tower {
+fn draft_head(random: &mut Random, knobs: &Knobs) -> Tower {
     let any = random.within(1..=MAX_NUMBERS);
+    if random.percent(knobs.high) {
+        return tower(MAX_NUMBERS, *random.pick(&[0, any, any, MAX_NUMBERS]));
+    }
     let max = *random.pick(&[1, 2, 3, 4, 12, 12, 12, MAX_NUMBERS, any]);
     let height = match random.below(5) {
         0 => 0,
@@ -435,7 +462,7 @@ fn draft_tower(random: &mut Random, knobs: &Knobs, head: &Tower, is_first: bool)
     }
     let height = match random.below(4) {
         0 => highest,
-        1 => 1,
+        1 => random.within(1..=highest),
         _ => random.within(1..=highest.min(5)),
     };
     let max = match random.below(3) {

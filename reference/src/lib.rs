@@ -41,4 +41,5 @@ pub mod samples;
 pub mod script;
 pub mod sort;
 pub mod theorems;
+pub mod towers;
 pub mod twin;

@@ -4,6 +4,7 @@ use reference::compare::programs::{Program, TWIN};
 use reference::compare::{self, tally};
 use reference::fuzz::{self, Failure, Tally};
 use reference::rule::Rule;
+use reference::towers::agree;
 use reference::{
     bench, emit, emptying, events, explain, offsets, program, samples, theorems as text,
 };
@@ -17,7 +18,7 @@ const USAGE: &str = "usage:
   reference explain FILE        the layout, or every broken rule
   reference emit DIR SEED N     N images with the program's lines
   reference fuzz SEED N         N lists of calls, N that empty full cards, N on offset tables,
-                                N damaged images
+                                N damaged images, N images searched by towers
   reference compare P SEED N    N images, lists of calls, pairs of keys against P, twin or library
   reference bench               times of the twin and the library, in Markdown
   reference samples DIR         the sample cards with the program's lines
@@ -77,6 +78,7 @@ fn fuzz(seed: &str, count: &str) -> Result<(), String> {
     for (reached, all) in [
         (&tally.emptying, emptying::all()),
         (&tally.offsets, offsets::all()),
+        (&tally.searches, agree::all()),
     ] {
         print!("{}", tally::cases_table(reached, &all));
     }

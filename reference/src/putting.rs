@@ -13,6 +13,7 @@ use crate::reached::{self, held, Cases, Made};
 use crate::request::{Call, CallKind};
 use crate::script::Script;
 use crate::sort::Sort;
+use crate::towers::links;
 use std::cmp::Ordering;
 use std::collections::BTreeSet;
 
@@ -64,11 +65,14 @@ const OTHERS: [&str; 16] = [
     "page given back past a full block",
 ];
 
-/// All cases: new towers of every height that there can be, beside towers of every height up to 12.
+/// All cases: new towers of every height that there can be, beside towers of every height up to 12, and
+/// linked in each order of keys.
 pub fn all() -> Vec<String> {
     let new = (0..=HIGHEST).map(new_tower);
+    let linked = [Sort::Bytes, Sort::Numbers].map(links::all_new);
     let others = OTHERS.iter().map(|case| (*case).to_owned());
     let more = others.chain(new).chain((1..=12).map(beside));
+    let more = more.chain(linked.concat());
     reached::with_page_ends(&JOINING, more)
 }
 
@@ -100,6 +104,7 @@ fn image(random: &mut Random) -> (Sample, usize) {
             return (sample, CALLS / 2);
         }
         14..=19 => Knobs::towers_long(),
+        20..=25 => Knobs::odd_towers(),
         _ => Knobs::tiny_long(),
     };
     (generate::sample(random, &knobs), CALLS)
@@ -118,7 +123,7 @@ fn split_next(random: &mut Random) -> Sample {
     let max = *random.pick(if is_large {
         &[12, MAX_NUMBERS]
     } else {
-        &[1, 3, 12, MAX_NUMBERS]
+        &[1, 3, 12, MAX_NUMBERS, MAX_NUMBERS]
     });
     let size = *random.pick(&[2, 3]);
     let free = random.within(if is_large { 2..=5 } else { 0..=5 });
@@ -259,7 +264,7 @@ pub fn of_spans(old: &Table, new: &Table, sort: Sort, key: &[u8]) -> Vec<String>
         return vec!["value replaced".to_owned(), on];
     }
     if new.spans.len() > old.spans.len() {
-        return of_split(old, new, place);
+        return of_split(old, new, sort, place);
     }
     let mut cases = vec![format!("key joined a span of {}", old.span_size)];
     if was.entries.is_empty() {
@@ -269,7 +274,7 @@ pub fn of_spans(old: &Table, new: &Table, sort: Sort, key: &[u8]) -> Vec<String>
 }
 
 /// The split of the span at this place: where it was, its pages and its new tower.
-fn of_split(old: &Table, new: &Table, place: usize) -> Vec<String> {
+fn of_split(old: &Table, new: &Table, sort: Sort, place: usize) -> Vec<String> {
     let (was, is, added) = (&old.spans[place], &new.spans[place], &new.spans[place + 1]);
     let which = match place + 1 == old.spans.len() {
         true => "the last",
@@ -289,5 +294,6 @@ fn of_split(old: &Table, new: &Table, place: usize) -> Vec<String> {
     let drawn = is.continuations.len() + 1 + added.continuations.len() + height.min(1);
     let takes_none = drawn <= was.continuations.len();
     cases.extend(held(&[("split that takes no page", takes_none)]));
+    cases.extend(links::of_new(sort, old, new, place + 1));
     cases
 }

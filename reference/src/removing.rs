@@ -12,6 +12,7 @@ use crate::reached::{self, held, Cases, Made};
 use crate::request::{Call, CallKind};
 use crate::script::Script;
 use crate::sort::Sort;
+use crate::towers::links;
 use std::collections::BTreeSet;
 
 /// How many calls a list has.
@@ -79,7 +80,9 @@ const FIXED: [&str; 9] = [
 pub fn all() -> Vec<String> {
     let on_full_too = ON_FULL_TOO.iter().map(|case| (*case).to_owned());
     let heights = HEIGHTS.into_iter().map(unlinked);
-    reached::with_page_ends(&FIXED, on_full_too.chain(heights))
+    let links = [Sort::Bytes, Sort::Numbers].map(links::all_unlinked);
+    let more = on_full_too.chain(heights).chain(links.concat());
+    reached::with_page_ends(&FIXED, more)
 }
 
 /// The case of a tower of this height that goes with its span.
@@ -101,7 +104,8 @@ fn image(random: &mut Random) -> (Sample, usize) {
     let (sample, calls) = match random.below(100) {
         0..=3 => (putting::spans_of_128(random), FEW),
         4 => (generate::sample(random, &Knobs::few_large()), FEW),
-        5..=39 => (generate::sample(random, &Knobs::towers_long()), CALLS),
+        5..=29 => (generate::sample(random, &Knobs::towers_long()), CALLS),
+        30..=39 => (generate::sample(random, &Knobs::odd_towers()), CALLS),
         _ => (generate::sample(random, &Knobs::tiny_long()), CALLS),
     };
     if !random.percent(20) {
@@ -152,6 +156,7 @@ pub fn of_remove(made: &Made<'_>) -> Vec<String> {
     let mut cases = of_key(old, place, key);
     let given = if new.spans.len() < old.spans.len() {
         cases.extend(of_unlinking(old, place));
+        cases.extend(links::of_unlinked(sort, old, place));
         given_span(&old.spans[place])
     } else {
         cases.extend(of_rewriting(old, new, place));

@@ -27,11 +27,12 @@ use reference::rule::Rule;
 use reference::script::{script, script_on, Script};
 use reference::sort::{number, Sort};
 use reference::theorems;
+use reference::towers::agree;
 use std::collections::{BTreeMap, BTreeSet};
 
 #[test]
 fn lists_of_calls_and_damaged_images() {
-    let tally = fuzz(1000, 600).expect("no failure");
+    let tally = fuzz(1000, 800).expect("no failure");
     for rule in Rule::ALL {
         let count = tally.damaged[rule];
         assert!(count.images >= 8, "{rule}");
@@ -43,6 +44,9 @@ fn lists_of_calls_and_damaged_images() {
     }
     for case in emptying::all() {
         assert!(tally.emptying.contains_key(&case), "{case}");
+    }
+    for case in agree::all() {
+        assert!(tally.searches.contains_key(&case), "{case}");
     }
     let numbers: [(CallKind, &[u32]); 6] = [
         (CallKind::Check, &[0, 1, 2, 3]),

@@ -15,7 +15,7 @@ use reference::page::write_u32;
 use reference::random::Random;
 use reference::request::{Call, CallKind, Request};
 use reference::rule::Rule;
-use reference::sort;
+use reference::sort::{self, Sort};
 
 #[test]
 fn images_are_checked_alike() {
@@ -139,15 +139,45 @@ fn offset_table_of_the_benchmark() {
     }
 }
 
+/// As many spans as fit, every other one with a tower, and calls near their end.
+#[test]
+fn many_spans_of_the_benchmark() {
+    let mut cases = call_cases();
+    cases.retain(|case| case.image_name == Filling::ManySpans.name());
+    assert_eq!(cases.len(), 5);
+    for case in &cases {
+        let layout = check(&case.image).expect("well-formed");
+        let table = &layout.tables[0].1;
+        let spans = table.spans.len();
+        assert!(spans > 2600 && table.levels() == 1 + spans / 2);
+        let place = case
+            .request
+            .call
+            .key()
+            .map(|key| table.target(Sort::Bytes, key));
+        assert!(place.is_none_or(|place| place == spans - 4));
+        let outcome = TWIN.run(&case.image, &case.request).expect("a call");
+        assert_eq!(outcome.answer.number, 0, "{}", case.call);
+    }
+}
+
 /// Rows of the benchmark, each with an event that its call has to show.
-const ROWS: [(&str, &str); 9] = [
+const ROWS: [(&str, &str); 11] = [
     ("put, new key, split", "split"),
+    (
+        "put, new key near the end, split",
+        "new tower between others",
+    ),
     ("remove 65,535 bytes", "page given back"),
     ("remove, first span emptied", "first span emptied"),
     ("remove, span without tower emptied", "span unlinked"),
     ("remove, span with tower emptied", "tower unlinked"),
     (
         "remove, span unlinked",
+        "tower of height 2 or more unlinked",
+    ),
+    (
+        "remove, second span unlinked",
         "tower of height 2 or more unlinked",
     ),
     ("remove, last span unlinked", "tower unlinked"),

@@ -7,6 +7,7 @@ pub mod Tested
 pub mod Samples
 pub mod Card
 pub mod Changes
+pub mod Paths
 pub mod Histories
 pub mod Reading
 pub mod Read

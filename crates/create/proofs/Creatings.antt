@@ -2,7 +2,7 @@
 use Prim.Native.Nat.{ℕ, _+_, _≤_, _<_}
 use native.Mathlib.Omega.{arith}
 use mathlib.Core.Path.{sym, subst}
-use mathlib.Core.Bool.{Bool}
+use mathlib.Core.Bool.{Bool, false}
 use mathlib.Core.List.{List}
 use lib.ListN.{length}
 use Rattle.blockfile.specs.Layout.{Entry, Layout, columns}
@@ -13,9 +13,12 @@ use Rattle.laws.proofs.Targets.{target-is}
 use Rattle.laws.proofs.TablePut.{put-few}
 use Rattle.order.specs.declared.sort.Sort.the-variants.{Bytes}
 use Rattle.search.specs.Spans.{SpanBy}
+use Rattle.search.specs.declared.path.Path.{Path}
 use Rattle.search.specs.Tables.{ReadingBy, metaindex, TargetIn}
+use Rattle.search.specs.Paths.{PathIn}
 use Rattle.search.proofs.Readables.{meta-by}
 use Rattle.search.proofs.Tables.{target-span, said-target}
+use Rattle.links.proofs.Leading.{path-target}
 use Rattle.stage.specs.declared.change.Spot.{Spot}
 use Rattle.stage.specs.Changes.{Spotted, SpottedOn}
 use Rattle.edit.proofs.Stands.{meta-standing}
@@ -32,11 +35,11 @@ module _ {img : List ℕ} {free : ℕ} {L : Layout} {name : List ℕ} (a : NoTab
   inside : place < length (columns (L .meta))
   inside = target-is nameRule names-ordered name (L .meta) (a .well .metaOk) .place
 
-  module _ (page : ℕ) (f : TargetIn img metaindex name page) (s : Spot) (g : SpottedOn img page Bytes name s) where
+  module _ {path : Path} (p : PathIn img metaindex name false path) (page : ℕ) (f : TargetIn img metaindex name page) (s : Spot) (g : SpottedOn img page Bytes name s) where
     spotted : Spotted nameRule name (spanAt (L .meta) place .entries) s
     spotted = said-target reading name page f (λ r es. Spotted r name es s) (g .is)
 
-    enters : Enters img page free (putAt s) name L
+    enters : Enters img page free (putAt s) name (path .pages) L
     enters =
         record {
           none = a;
@@ -52,15 +55,16 @@ module _ {img : List ℕ} {free : ℕ} {L : Layout} {name : List ℕ} (a : NoTab
                 few = subst (λ (es : List Entry). length es ≤ L .meta .spanSize + 1) (spotted .put v) (put-few nameRule names-ordered (L .meta) (a .well .metaOk) name v);
               };
           puts = λ v. sym (spotted .put v);
+          passed = path-target reading name p;
         }
 
 module _ {img b : List ℕ} {free : ℕ} {name : List ℕ} (h : CreateReady img b free name) (page : ℕ) (f : TargetIn img metaindex name page) where
   pub spot-ready : SpanBy img page Bytes
   spot-ready = target-span (reading (h .is)) name page f
 
-  pub enter-ready : (s : Spot) → SpottedOn img page Bytes name s → EnterReady img b page free (putAt s) name
-  enter-ready s g = record { layout = h .layout; enters = enters (h .is) page f s g; allowed = h .allowed; lent = h .lent }
+  pub enter-ready : {path : Path} → PathIn img metaindex name false path → (s : Spot) → SpottedOn img page Bytes name s → EnterReady img b page free (putAt s) name (path .pages)
+  enter-ready p s g = record { layout = h .layout; enters = enters (h .is) p page f s g; allowed = h .allowed; lent = h .lent }
 
-pub created : {img : List ℕ} {free : ℕ} {name : List ℕ} (page : ℕ) → TargetIn img metaindex name page → (s : Spot) → SpottedOn img page Bytes name s → (r : Bool) (out : List ℕ)
-    → Entered img page free (putAt s) name r out → Created img free name r out
-created page f s g r out w = record { is = λ L a. w .is L (enters a page f s g) }
+pub created : {img : List ℕ} {free : ℕ} {name : List ℕ} {path : Path} → PathIn img metaindex name false path → (page : ℕ) → TargetIn img metaindex name page
+    → (s : Spot) → SpottedOn img page Bytes name s → (r : Bool) (out : List ℕ) → Entered img page free (putAt s) name (path .pages) r out → Created img free name r out
+created p page f s g r out w = record { is = λ L a. w .is L (enters a p page f s g) }

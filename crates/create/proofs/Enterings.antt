@@ -31,7 +31,7 @@ use Rattle.edit.specs.Shapes.{ContsReady, ContsCounted}
 use Rattle.edit.specs.Makes.{PlanReady, PlanFor}
 use Rattle.edit.specs.Applies.{wantedOf}
 use Rattle.edit.specs.Commits.{drawnWith}
-use Rattle.edit.specs.Rewrites.{changed, RewriteOf, Carries, CarryReady, Carried}
+use Rattle.edit.specs.Rewrites.{changed, RewriteOf, Carries, CarryOn, CarriedOn}
 use Rattle.edit.proofs.Stands.{besides, in-hand, columns-few}
 use Rattle.edit.proofs.Committing.{plan-total}
 use Rattle.edit.proofs.Rewritings.{table-at, all-few, plan-is, conts-ready, counted, conts-near, span-near, tower-near}
@@ -39,7 +39,7 @@ use Rattle.create.specs.declared.table.NewTable.{NewTable}
 use Rattle.create.specs.Tables.{TableFor}
 use Rattle.create.specs.Creates.{Outcome, Enters, EnterReady, Entered}
 
-module _ {img : List ℕ} {page free : ℕ} {c : Change} {name : List ℕ} {L : Layout} (e : Enters img page free c name L) where
+module _ {img : List ℕ} {page free : ℕ} {c : Change} {name path : List ℕ} {L : Layout} (e : Enters img page free c name path L) where
   abbrev i : ℕ
   i = target nameRule name (L .meta)
 
@@ -181,7 +181,7 @@ module _ {img : List ℕ} {page free : ℕ} {c : Change} {name : List ℕ} {L : 
                 = omega (arith, plan-total (plan-is (e .rewrite v) (with-value v four)), wanted-is, q .further) in
                 ap (λ (m : ℕ). draw old m [] (L .free)) k
 
-            pub all-done : 1024 * x .base ≡ length img → (img1 : List ℕ) → Carried img x c name v img1 → (out : List ℕ)
+            pub all-done : 1024 * x .base ≡ length img → (img1 : List ℕ) → CarriedOn img x c name v path img1 → (out : List ℕ)
                 → out ≡ apply (wholeTable (newTable (t .most) (t .root) (t .span) (t .head))) img1 → Outcome img L name true out
             unfolding lacks writesOf createPlan
             all-done k img1 d out g =
@@ -201,12 +201,12 @@ module _ {img : List ℕ} {page free : ℕ} {c : Change} {name : List ℕ} {L : 
 
                 entered : img1 ≡ apply (drawn .writes ++ named .writes) img
                 entered =
-                    d .image nameRule (L .meta) (L .free) i (carries k v four)
+                    d .image nameRule (L .meta) (L .free) i (carries k v four) (e .passed)
                     ∙ (λ j. apply (drawn-is j .writes ++ rewrite (L .meta) i (entries-are j) (drawn-is j .pages) .writes) img)
 
 -- ---- The metaindex's page of names
 
-module _ {img b : List ℕ} {page free : ℕ} {c : Change} {name : List ℕ} (h : EnterReady img b page free c name) where
+module _ {img b : List ℕ} {page free : ℕ} {c : Change} {name path : List ℕ} (h : EnterReady img b page free c name path) where
   pub plan-ready : PlanReady img 2 page c (length name + 4)
   plan-ready =
       let o = h .enters .rewrite (word32 0) in
@@ -222,15 +222,18 @@ module _ {img b : List ℕ} {page free : ℕ} {c : Change} {name : List ℕ} (h 
   whole-pages e q = omega (arith, q .words, h .enters .rewrite (word32 0) .standing .shows .size)
 
   pub carry-ready : {base : ℕ} {x : Plan} (q : PlanFor img 2 page c (length name + 4) 3 base x) (n : ℕ) (m : ContsCounted img page n) → wantedOf x + 3 ≤ n + free
-      → 1024 * x .base ≡ length img → (r : ℕ) (v : List ℕ) → v ≡ word32 r → CarryReady img b x c name v
+      → 1024 * x .base ≡ length img → (r : ℕ) (v : List ℕ) → v ≡ word32 r → CarryOn img b x c name v path
   carry-ready q n m l k r v s =
       record {
-        rule = nameRule;
-        table = h .layout .meta;
-        blocks = h .layout .free;
-        place = target nameRule name (h .layout .meta);
-        carries = carries (h .enters) q n m l k v (ap length s ∙ length-word32 r);
-        lent = h .lent;
+        ready = record {
+          rule = nameRule;
+          table = h .layout .meta;
+          blocks = h .layout .free;
+          place = target nameRule name (h .layout .meta);
+          carries = carries (h .enters) q n m l k v (ap length s ∙ length-word32 r);
+          lent = h .lent;
+        };
+        passed = h .enters .passed;
       }
 
 -- four bytes stored over four
@@ -238,12 +241,12 @@ pub stored-word : (r : ℕ) → sets (replicate 4 0) 0 (word32 r) ≡ word32 r
 unfolding word32
 stored-word r = refl
 
-module _ {img : List ℕ} {page free : ℕ} {c : Change} {name : List ℕ} {base : ℕ} {x : Plan} (q : PlanFor img 2 page c (length name + 4) 3 base x)
+module _ {img : List ℕ} {page free : ℕ} {c : Change} {name path : List ℕ} {base : ℕ} {x : Plan} (q : PlanFor img 2 page c (length name + 4) 3 base x)
     (n : ℕ) (m : ContsCounted img page n) where
-  pub no-room : n + free < wantedOf x + 3 → Entered img page free c name false img
+  pub no-room : n + free < wantedOf x + 3 → Entered img page free c name path false img
   no-room l = record { is = λ L e. not-enough e q n m l }
 
   pub entered : wantedOf x + 3 ≤ n + free → 1024 * x .base ≡ length img → (t : NewTable) → TableFor img (wantedOf x - n) t → (v : List ℕ) → v ≡ word32 (t .root)
-      → (img1 : List ℕ) → Carried img x c name v img1 → (out : List ℕ) → out ≡ apply (wholeTable (newTable (t .most) (t .root) (t .span) (t .head))) img1
-      → Entered img page free c name true out
+      → (img1 : List ℕ) → CarriedOn img x c name v path img1 → (out : List ℕ) → out ≡ apply (wholeTable (newTable (t .most) (t .root) (t .span) (t .head))) img1
+      → Entered img page free c name path true out
   entered l k t f v s img1 d out g = record { is = λ L e. all-done e q n m l t f v s k img1 d out g }

@@ -1,5 +1,5 @@
 -- What create asks for, and what it leaves.
-use Prim.Native.Nat.{ℕ}
+use Prim.Native.Nat.{ℕ, suc}
 use mathlib.Core.Path.{_≡_}
 use mathlib.Core.Bool.{Bool, true, false}
 use mathlib.Core.List.{List}
@@ -13,6 +13,7 @@ use Rattle.blockfile.specs.WellFormed.{WellFormed}
 use Rattle.blockfile.specs.Plan.{lacks, writesOf}
 use Rattle.blockfile.specs.Put.{target, spanAt}
 use Rattle.blockfile.specs.Create.{createPlan}
+use Rattle.links.specs.Levels.{PathAt}
 use Rattle.stage.specs.declared.change.Change.{Change}
 use Rattle.edit.specs.Rewrites.{changed, RewriteOf}
 
@@ -29,21 +30,22 @@ pub record Outcome (img : List ℕ) (L : Layout) (name : List ℕ) (r : Bool) (o
 
 -- ---- The name entered
 
--- the change, of the metaindex's target span on the page, puts the name in
-pub record Enters (img : List ℕ) (page free : ℕ) (c : Change) (name : List ℕ) (L : Layout) : Type 0 where
+-- the change, of the metaindex's target span on the page, puts the name in, and the path is that to the name
+pub record Enters (img : List ℕ) (page free : ℕ) (c : Change) (name path : List ℕ) (L : Layout) : Type 0 where
   pub none : NoTable img free L name
   pub rewrite : (v : List ℕ) → RewriteOf img 2 page c name v nameRule (L .meta) (L .free) (target nameRule name (L .meta))
   pub puts : (v : List ℕ) → changed (L .meta) (target nameRule name (L .meta)) c name v
       ≡ insert nameRule name v (spanAt (L .meta) (target nameRule name (L .meta)) .entries)
+  pub passed : PathAt (L .meta) (suc (target nameRule name (L .meta))) path
 
-pub record EnterReady (img scratch : List ℕ) (page free : ℕ) (c : Change) (name : List ℕ) : Type 0 where
+pub record EnterReady (img scratch : List ℕ) (page free : ℕ) (c : Change) (name path : List ℕ) : Type 0 where
   pub layout : Layout
-  pub enters : Enters img page free c name layout
+  pub enters : Enters img page free c name path layout
   pub allowed : T (nameRule .allowed name)
   pub lent : length scratch ≡ length img
 
-pub record Entered (img : List ℕ) (page free : ℕ) (c : Change) (name : List ℕ) (r : Bool) (out : List ℕ) : Type 0 where
-  pub is : (L : Layout) → Enters img page free c name L → Outcome img L name r out
+pub record Entered (img : List ℕ) (page free : ℕ) (c : Change) (name path : List ℕ) (r : Bool) (out : List ℕ) : Type 0 where
+  pub is : (L : Layout) → Enters img page free c name path L → Outcome img L name r out
 
 -- ---- Create
 

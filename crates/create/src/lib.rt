@@ -5,9 +5,10 @@ use edit::apply::carry_out;
 use edit::plan::make_plan;
 use edit::shape::count_conts;
 use order::sort::Sort;
+use search::path::descend;
 use search::table::METAINDEX;
 use search::table::TableRef;
-use search::table::find_span;
+use search::table::find_from;
 use stage::change::Change;
 use stage::change::find_spot;
 use table::new_table;
@@ -15,7 +16,7 @@ use table::write_table;
 
 pub mod table;
 
-// Enters the name in the span on `page` of the metaindex by the change, and writes its table, where `free` pages are free. Answers
+// Enters the name in the span on `page` of the metaindex, to which the path is, by the change, and writes its table, where `free` pages are free. Answers
 // whether there was room; else nothing changes. The table's pages are drawn behind the metaindex's, and a new name leaves no page
 // of its span over: they come from the free list, and are known before anything is written.
 fn enter(
@@ -25,9 +26,10 @@ fn enter(
     free: usize,
     change: Change,
     name: &[u8],
+    path: &[usize; 252],
 ) -> bool
-    requires { ⌜ EnterReady (now image) (now scratch) page free change (now name) ⌝ }
-    ensures { λ r. ⌜ Entered (now (image .entry)) page free change (now (name .entry)) r (now (image .exit)) ⌝ }
+    requires { ⌜ EnterReady (now image) (now scratch) page free change (now name) (now path) ⌝ }
+    ensures { λ r. ⌜ Entered (now (image .entry)) page free change (now (name .entry)) (now (path .entry)) r (now (image .exit)) ⌝ }
 {
     let base = image.len() / 1024;
     let plan = make_plan(image, METAINDEX, page, change, name.len() + 4, 3, base);
@@ -39,7 +41,7 @@ fn enter(
     let table = new_table(image, wanted - old);
     let mut value = [0u8; 4];
     set_number(&mut value, 0, table.root);
-    carry_out(image, scratch, plan, change, name, &value);
+    carry_out(image, scratch, plan, change, name, &value, path);
     write_table(image, table);
     true
 }
@@ -54,12 +56,14 @@ pub fn create(image: &mut [u8], scratch: &mut [u8], free: usize, name: &[u8]) ->
         root: METAINDEX,
         sort: Sort::Bytes,
     };
-    let page = find_span(image, names, name);
+    let path = descend(image, names, name, false);
+    let page = find_from(image, names, path.pages[0], name);
     let spot = find_spot(image, page, Sort::Bytes, name);
     let change = Change {
         index: spot.index,
         drops: spot.there,
         adds: 1,
     };
-    enter(image, scratch, page, free, change, name)
+    let pages = path.pages;
+    enter(image, scratch, page, free, change, name, &pages)
 }

@@ -3,7 +3,7 @@ use Prim.Native.Nat.{ℕ, zero, suc, _+_, _*_, _≤_, min}
 use native.Mathlib.Omega.{arith}
 use mathlib.Core.Path.{_≡_, refl, ap, ap₂, sym, _∙_, subst}
 use mathlib.Core.List.{List, [], _∷_, _++_}
-use lib.ListN.{length, length-append}
+use lib.ListN.{length, getD, length-append}
 use lib.Seq.{sets}
 use Rattle.blockfile.specs.Bytes.{Write, be32, word32, apply, Every, gather, firstOf}
 use Rattle.blockfile.specs.Layout.{Entry, Table, Block, columns, towersOf, entriesOf}
@@ -23,14 +23,15 @@ use Rattle.laws.proofs.TableWrites.{shared-tower}
 use Rattle.entries.specs.Places.{IsPage}
 use Rattle.draw.specs.Writing.{PageOf}
 use Rattle.search.specs.Tables.{Reading}
-use Rattle.links.specs.Levels.{Before, SpanAt, SpanIn, BeforeIn, HasBefore, AfterIn}
-use Rattle.links.proofs.Relinked.{before-linkable}
+use Rattle.links.specs.Levels.{Filled, Before, PathAt, orHead, HasBefore, AfterIn}
+use Rattle.links.proofs.Leading.{before-all}
+use Rattle.links.proofs.Relinked.{before-less, before-linkable}
 use Rattle.edit.specs.declared.plan.Plan.{Plan}
 use Rattle.edit.specs.Cuts.{spanWrites, towerWrites, countsAt}
 use Rattle.edit.specs.Plans.{SpansOf}
 use Rattle.edit.specs.Counts.{sizeOf, spansOf, levelsOf, countsOf}
 use Rattle.edit.specs.Applies.{DrewPlan, FlatReady, WroteFlat, TowerOn, TallReady, riseFor, WroteTall}
-use Rattle.edit.specs.Commits.{CommitOf, drawnWith, Committed}
+use Rattle.edit.specs.Commits.{CommitOf, drawnWith, Committed, CommittedOn}
 use Rattle.edit.proofs.Cuts.{cutAt, riseAt, Around, rewriting-coded}
 use Rattle.edit.proofs.Stands.{past-pages, head-borne}
 use Rattle.edit.proofs.Risings.{page-of}
@@ -41,14 +42,13 @@ module _ {img b : List ℕ} {x : Plan} {r : KeyRule} {t : Table} {bs : List Bloc
   abbrev pub reading-of : Reading img (x .root)
   reading-of = record { rule = r; table = t; readable = h .standing .readable; root = sym (h .root) }
 
-  abbrev pub span-at : SpanAt reading-of (x .page) i
-  span-at = record { there = h .inside; is = h .page }
+  -- the towers before the place, by the path to it
+  module _ {path old before : List ℕ} (p : PathAt t (suc i) path) (e : length old ≡ 252) (f : Filled old 252 (λ l. orHead (x .list .head) (getD path l 0)) before) where
+    pub before-at : Before t (suc i) 252 before
+    before-at = before-all reading-of i (h .plan .list .head) e p f
 
-  pub span-in : SpanIn img (x .root) (x .page)
-  span-in = record { reading = reading-of; place = i; at = span-at }
-
-  pub has-before : (before : List ℕ) → BeforeIn img (x .root) (x .page) before → HasBefore img (x .root) before
-  has-before before l = record { reading = reading-of; place = i; before = l .is reading-of i span-at }
+    pub has-before : HasBefore img (x .root) before
+    has-before = record { reading = reading-of; place = i; before = before-at }
 
 -- one new column for a new span
 new-count : (t : Table) (p : Parts) (ns ms : List ℕ) → length (newColumn t p ns ms) ≡ min 1 (length ns)
@@ -192,7 +192,7 @@ module _ {img b : List ℕ} {x : Plan} {r : KeyRule} {t : Table} {bs : List Bloc
     same-length : length out ≡ length img
     same-length = ap length image-drawn ∙ length-apply (drawnWith t i bs es (x .more) .writes) img
 
-    pub tall-ready : (x .wants .tower ≡ 0 → ⊥) → (before : List ℕ) → Before t (suc i) before → TallReady out after x before
+    pub tall-ready : (x .wants .tower ≡ 0 → ⊥) → (before : List ℕ) → Before t (suc i) 252 before → TallReady out after x before
     tall-ready z before l =
         let o : (n : ℕ) × (s .tower ≡ n ∷ []) = one-tower (is-one z) in
         let f : FlatReady out after x = flat-ready in
@@ -204,7 +204,7 @@ module _ {img b : List ℕ} {x : Plan} {r : KeyRule} {t : Table} {bs : List Bloc
           number = o .0;
           tower = tower-on (o .0) (o .1);
           head = page-of out same-length (subst (IsPage img) (sym (h .plan .list .head)) (head-borne (h .standing .readable) .1 .0));
-          links = before-linkable (reading-of h) (suc i) (x .shape .height) (omega (arith, h .plan .shape .height, low-tower)) l out same-length;
+          links = before-linkable (reading-of h) (suc i) (x .shape .height) (omega (arith, h .plan .shape .height, low-tower)) (before-less (omega (arith, h .plan .shape .height, low-tower)) l) out same-length;
         }
 
     tall-is : (x .wants .tower ≡ 0 → ⊥) → (before behind : List ℕ) → Around t i before behind → (fin : List ℕ) → WroteTall out after x before behind fin
@@ -239,11 +239,12 @@ pub committed-flat : {img b : List ℕ} {x : Plan} (out after fin : List ℕ) �
 committed-flat out after fin w z f = record { image = λ r t bs i es h. flat-is h out after w z fin f }
 
 -- with a tower, from the towers around it, which were read before
-pub committed-tall : {img b : List ℕ} {x : Plan} (before behind out after fin : List ℕ) → BeforeIn img (x .root) (x .page) before → AfterIn img (x .root) before behind
-    → DrewPlan img b x out after → (x .wants .tower ≡ 0 → ⊥) → WroteTall out after x before behind fin → Committed img b x fin
-committed-tall before behind out after fin l a w z f =
+pub committed-tall : {img b : List ℕ} {x : Plan} {path old : List ℕ} (before behind out after fin : List ℕ) → length old ≡ 252
+    → Filled old 252 (λ l. orHead (x .list .head) (getD path l 0)) before → AfterIn img (x .root) before behind
+    → DrewPlan img b x out after → (x .wants .tower ≡ 0 → ⊥) → WroteTall out after x before behind fin → CommittedOn img b x path fin
+committed-tall before behind out after fin e l a w z f =
     record {
-      image = λ r t bs i es h.
-          let c : Before t (suc i) before = l .is (reading-of h) i (span-at h) in
+      image = λ r t bs i es h p.
+          let c : Before t (suc i) 252 before = before-at h p e l in
           tall-is h out after w z before behind (record { last = c; next = a .is (reading-of h) i c }) fin f;
     }

@@ -19,6 +19,7 @@ use Rattle.laws.proofs.Relinks.{relinks}
 use Rattle.laws.proofs.TableTowers.{newLinked, head-after, root-after, seats-after, behind-after}
 use Rattle.laws.proofs.TableWrites.{rewriting-is}
 use Rattle.links.specs.Links.{levelsBelow, towerAs}
+use Rattle.search.proofs.Towers.{last-first}
 use Rattle.links.specs.Levels.{Before, After}
 use Rattle.edit.specs.Cuts.{Cut, stayed, moved, prevOn, spanWrites, Rise, linksOn, towerWrites, countsAt}
 
@@ -83,8 +84,8 @@ riseAt t p q before after =
 
 -- the lists hold the towers before and behind the new span at each level
 pub record Around (t : Table) (i : ℕ) (before after : List ℕ) : Type 0 where
-  pub last : Before t (suc i) before
-  pub next : After t (suc i) after
+  pub last : Before t (suc i) 252 before
+  pub next : After t (suc i) 252 after
 
 -- the head's current height is written where the new tower is above it
 raise-to : (n top h : ℕ) → cond (ltb top (max top h)) (on n 10 (word16 (max top h)) ∷ []) [] ≡ cond (ltb top h) (on n 10 (word16 h) ∷ []) []
@@ -104,15 +105,10 @@ module _ (t : Table) (i : ℕ) (p : Parts) (s : Shared) (inside : i < length (co
 
   -- the towers up to place i are the same but for the head's height, which makes no difference to which is the last
   last-after : (l : ℕ) → lastAt l (after .head .page) (towersOf (take (suc i) (columns after))) ≡ lastAt l (t .head .page) (towersOf (take (suc i) (columns t)))
-  last-after l = passed (after .head) (towersOf (take i (after .rest))) ∙ ap₂ (lastAt l) (ap (λ (w : Tower). w .page) (head-after t p s i)) same ∙ sym (passed (t .head) (towersOf (take i (t .rest))))
+  last-after l =
+      last-first l (after .head) (towersOf (take i (after .rest))) ∙ ap₂ (lastAt l) (ap (λ (w : Tower). w .page) (head-after t p s i)) same
+      ∙ sym (last-first l (t .head) (towersOf (take i (t .rest))))
     where
-      passed : (w : Tower) (ts : List Tower) → lastAt l (w .page) (w ∷ ts) ≡ lastAt l (w .page) ts
-      passed w ts = go (ltb l (w .height))
-        where
-          go : (b : Bool) → lastAt l (cond b (w .page) (w .page)) ts ≡ lastAt l (w .page) ts
-          go true = refl
-          go false = refl
-
       same : towersOf (take i (after .rest)) ≡ towersOf (take i (t .rest))
       same = seated-towers (take i (after .rest)) ∙ ap seated (seats-after t p s i inside) ∙ sym (seated-towers (take i (t .rest)))
 

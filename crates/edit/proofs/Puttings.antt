@@ -17,9 +17,12 @@ use Rattle.laws.proofs.Targets.{target-is}
 use Rattle.laws.proofs.TablePut.{put-few}
 use Rattle.laws.proofs.Fitting.{keys-short}
 use Rattle.search.specs.declared.table.TableRef.{TableRef}
+use Rattle.search.specs.declared.path.Path.{Path}
 use Rattle.search.specs.Tables.{ReadingBy, TargetIn}
+use Rattle.search.specs.Paths.{PathIn}
 use Rattle.search.proofs.Readables.{table-by}
 use Rattle.search.proofs.Tables.{said-target}
+use Rattle.links.proofs.Leading.{path-target}
 use Rattle.stage.specs.declared.change.Change.{Change}
 use Rattle.stage.specs.declared.change.Spot.{Spot}
 use Rattle.stage.specs.Changes.{Spotted, SpottedOn}
@@ -27,7 +30,7 @@ use Rattle.edit.specs.declared.plan.Plan.{Plan}
 use Rattle.edit.specs.Shapes.{ContsCounted}
 use Rattle.edit.specs.Makes.{PlanReady, PlanFor}
 use Rattle.edit.specs.Applies.{wantedOf}
-use Rattle.edit.specs.Rewrites.{changed, writesFor, RewriteOf, CarryReady, Carried}
+use Rattle.edit.specs.Rewrites.{changed, writesFor, RewriteOf, CarryOn, CarriedOn}
 use Rattle.edit.specs.Puts.{TableAt, PutReady, PutDone}
 use Rattle.edit.proofs.Stands.{table-standing}
 use Rattle.edit.proofs.Committing.{plan-total}
@@ -110,24 +113,28 @@ module _ {img : List ℕ} {d : TableRef} {free : ℕ} {k : List ℕ} (v : List �
       unfolding lacks putPlan rewritePlan
       enough = le-ltb (length (spanAt t (place a k) .conts) + freeCount (L .free)) _ (omega (arith, counted o q n m, wanted-is))
 
-      image-is : {out : List ℕ} → Carried img x (putAt s) k v out → out ≡ apply (writesOf L (putPlan L name t k v)) img
+      image-is : {path : Path} → PathIn img d k false path → {out : List ℕ} → CarriedOn img x (putAt s) k v (path .pages) out → out ≡ apply (writesOf L (putPlan L name t k v)) img
       unfolding putPlan
-      image-is w = written o q has-room w ∙ ap (λ (ws : List Write). apply ws img) (plan-writes L name t (place a k) (inserted a k page f s g v))
+      image-is p w = written o q has-room (w .image (keyRule name) t (L .free) (place a k) (carries o q has-room) (path-target (reading a) k p)) ∙ ap (λ (ws : List Write). apply ws img) (plan-writes L name t (place a k) (inserted a k page f s g v))
 
   pub put-full : n + free < wantedOf x → PutDone img d free k v false img
   put-full l = record { done = λ e. absurd (true≢false (sym e)); refused = λ e L name t a h. (lacking a h l, refl) }
 
   module _ (l : wantedOf x ≤ n + free) where
-    pub put-carries : {b : List ℕ} → PutReady img b d free k v → CarryReady img b x (putAt s) k v
-    put-carries h =
-        record {
-          rule = keyRule (h .name);
-          table = h .table;
-          blocks = h .layout .free;
-          place = place (h .is) k;
-          carries = carries (change-of h page f s g) q (has-room (h .is) (h .pages) l);
-          lent = h .lent;
-        }
+    module _ {path : Path} (p : PathIn img d k false path) where
+      pub put-carries : {b : List ℕ} → PutReady img b d free k v → CarryOn img b x (putAt s) k v (path .pages)
+      put-carries h =
+          record {
+            ready = record {
+              rule = keyRule (h .name);
+              table = h .table;
+              blocks = h .layout .free;
+              place = place (h .is) k;
+              carries = carries (change-of h page f s g) q (has-room (h .is) (h .pages) l);
+              lent = h .lent;
+            };
+            passed = path-target (reading (h .is)) k p;
+          }
 
-    pub put-done : {out : List ℕ} → Carried img x (putAt s) k v out → PutDone img d free k v true out
-    put-done w = record { done = λ e L name t a h. (enough a h l, image-is a h l w); refused = λ e. absurd (true≢false e) }
+      pub put-done : {out : List ℕ} → CarriedOn img x (putAt s) k v (path .pages) out → PutDone img d free k v true out
+      put-done w = record { done = λ e L name t a h. (enough a h l, image-is a h l p w); refused = λ e. absurd (true≢false e) }

@@ -21,8 +21,8 @@ use Rattle.edit.specs.Shapes.{ContsReady, ContsCounted}
 use Rattle.edit.specs.Makes.{Changes, PlanReady, PlanOf, PlanFor}
 use Rattle.edit.specs.Stages.{coming, PartsFor, PartsReady, PartsIn, PartsStaged}
 use Rattle.edit.specs.Applies.{totalOf}
-use Rattle.edit.specs.Commits.{CommitOf, CommitReady, drawnWith, drawnFor, Committed}
-use Rattle.edit.specs.Rewrites.{changed, writesFor, RewriteOf, Carries, CarryReady, Carried}
+use Rattle.edit.specs.Commits.{CommitOf, CommitOn, CommitReady, Committed, CommittedOn, drawnFor, drawnWith}
+use Rattle.edit.specs.Rewrites.{changed, writesFor, writesWith, RewriteOf, Carries, CarryReady, Carried, CarryOn, CarriedOn}
 use Rattle.edit.proofs.Stands.{columns-few}
 use Rattle.edit.proofs.Makings.{span-on, entries-on, conts-on, fits-on}
 use Rattle.edit.proofs.Committing.{plan-total, stay-half, move-half, drawn-few}
@@ -171,8 +171,18 @@ module _ {img : List ℕ} {x : Plan} {c : Change} {k v : List ℕ} where
         is = commit-of (a .is) (a .plan) (a .whole) (a .room) b (e ∙ h .lent) g;
       }
 
+  pub commit-on : {b₀ path : List ℕ} → (h : CarryOn img b₀ x c k v path) → (b : List ℕ) → length b ≡ length b₀ → PartsStaged img x c k v b → CommitOn img b x path
+  unfolding commit-ready
+  commit-on h b e g = record { ready = commit-ready (h .ready) b e g; passed = h .passed }
+
   pub carried : (b : List ℕ) → length b ≡ length img → PartsStaged img x c k v b → (out : List ℕ) → Committed img b x out → Carried img x c k v out
   carried b e g out d = record { image = λ r t bs i a. d .image r t bs i (changed t i c k v) (commit-of (a .is) (a .plan) (a .whole) (a .room) b e g) }
+
+  pub carried-flat : {path : List ℕ} (b : List ℕ) → length b ≡ length img → PartsStaged img x c k v b → (out : List ℕ) → Committed img b x out → CarriedOn img x c k v path out
+  carried-flat b e g out d = record { image = λ r t bs i a _. carried b e g out d .image r t bs i a }
+
+  pub carried-tall : {path : List ℕ} (b : List ℕ) → length b ≡ length img → PartsStaged img x c k v b → (out : List ℕ) → CommittedOn img b x path out → CarriedOn img x c k v path out
+  carried-tall b e g out d = record { image = λ r t bs i a p. d .image r t bs i (changed t i c k v) (commit-of (a .is) (a .plan) (a .whole) (a .room) b e g) p }
 
 -- ---- A plan without further pages
 
@@ -203,7 +213,7 @@ module _ {img : List ℕ} {root page : ℕ} {c : Change} {k v : List ℕ} {r : K
           room = omega (arith, plan-total (plan-is o q), q .further, room);
         }
 
-    pub written : {out : List ℕ} → Carried img x c k v out → out ≡ apply (writesFor t i bs (changed t i c k v)) img
+    pub written : {out : List ℕ} → out ≡ apply (writesWith t i bs (changed t i c k v) (x .more)) img → out ≡ apply (writesFor t i bs (changed t i c k v)) img
     written d =
         let es : List Entry = changed t i c k v in
-        d .image r t bs i carries ∙ ap (λ (y : Drawn). apply (y .writes ++ rewrite t i es (y .pages) .writes) img) (drawn-plain t i bs es (x .more) (q .further))
+        d ∙ ap (λ (y : Drawn). apply (y .writes ++ rewrite t i es (y .pages) .writes) img) (drawn-plain t i bs es (x .more) (q .further))

@@ -1,5 +1,5 @@
 -- A span of a table rewritten: what is asked for once its entries are staged, and what is left.
-use Prim.Native.Nat.{ℕ, _+_, _*_, _≤_, _<_}
+use Prim.Native.Nat.{ℕ, suc, _+_, _*_, _≤_, _<_}
 use mathlib.Core.Path.{_≡_}
 use mathlib.Core.List.{List, [], _++_}
 use lib.ListN.{length}
@@ -8,6 +8,7 @@ use Rattle.blockfile.specs.Layout.{Entry, Table, Block, columns, freeCount}
 use Rattle.blockfile.specs.Order.{KeyRule}
 use Rattle.blockfile.specs.Free.{Drawn, draw}
 use Rattle.blockfile.specs.Put.{spanAt, parts, wantedBy, rewrite}
+use Rattle.links.specs.Levels.{PathAt}
 use Rattle.edit.specs.declared.plan.Plan.{Plan}
 use Rattle.edit.specs.Standing.{Standing}
 use Rattle.edit.specs.Makes.{PlanOf}
@@ -44,4 +45,14 @@ drawnFor t i bs es = draw (spanAt t i .conts) (wantedBy (parts t es)) [] bs
 
 pub record Committed (img buffer : List ℕ) (x : Plan) (out : List ℕ) : Type 0 where
   pub image : (r : KeyRule) (t : Table) (bs : List Block) (i : ℕ) (es : List Entry) → CommitOf img buffer x r t bs i es
+      → out ≡ apply (drawnWith t i bs es (x .more) .writes ++ rewrite t i es (drawnWith t i bs es (x .more) .pages) .writes) img
+
+-- ---- With the path to the span
+
+pub record CommitOn (img buffer : List ℕ) (x : Plan) (path : List ℕ) : Type 0 where
+  pub ready : CommitReady img buffer x
+  pub passed : PathAt (ready .table) (suc (ready .place)) path
+
+pub record CommittedOn (img buffer : List ℕ) (x : Plan) (path out : List ℕ) : Type 0 where
+  pub image : (r : KeyRule) (t : Table) (bs : List Block) (i : ℕ) (es : List Entry) → CommitOf img buffer x r t bs i es → PathAt t (suc i) path
       → out ≡ apply (drawnWith t i bs es (x .more) .writes ++ rewrite t i es (drawnWith t i bs es (x .more) .pages) .writes) img

@@ -1,5 +1,5 @@
 -- A span of a table rewritten: what is asked for, and what is left.
-use Prim.Native.Nat.{ℕ, _+_, _*_, _≤_}
+use Prim.Native.Nat.{ℕ, suc, _+_, _*_, _≤_}
 use mathlib.Core.Path.{_≡_}
 use mathlib.Core.List.{List, _++_}
 use lib.ListN.{length}
@@ -7,6 +7,7 @@ use Rattle.blockfile.specs.Bytes.{Write, apply}
 use Rattle.blockfile.specs.Layout.{Entry, Table, Block, freeCount}
 use Rattle.blockfile.specs.Order.{KeyRule}
 use Rattle.blockfile.specs.Put.{spanAt, rewrite}
+use Rattle.links.specs.Levels.{PathAt}
 use Rattle.stage.specs.declared.change.Change.{Change}
 use Rattle.stage.specs.Changes.{spliced}
 use Rattle.edit.specs.declared.plan.Plan.{Plan}
@@ -52,7 +53,18 @@ pub record CarryReady (img buffer : List ℕ) (x : Plan) (c : Change) (k v : Lis
   pub carries : Carries img x c k v rule table blocks place
   pub lent : length buffer ≡ length img
 
+-- what is written where the span at place i gets these entries and n further pages are drawn
+abbrev pub writesWith : Table → (i : ℕ) → List Block → List Entry → (n : ℕ) → List Write
+writesWith t i bs es n = drawnWith t i bs es n .writes ++ rewrite t i es (drawnWith t i bs es n .pages) .writes
+
 pub record Carried (img : List ℕ) (x : Plan) (c : Change) (k v out : List ℕ) : Type 0 where
-  pub image : (r : KeyRule) (t : Table) (bs : List Block) (i : ℕ) → Carries img x c k v r t bs i
-      → out ≡ apply (drawnWith t i bs (changed t i c k v) (x .more) .writes
-      ++ rewrite t i (changed t i c k v) (drawnWith t i bs (changed t i c k v) (x .more) .pages) .writes) img
+  pub image : (r : KeyRule) (t : Table) (bs : List Block) (i : ℕ) → Carries img x c k v r t bs i → out ≡ apply (writesWith t i bs (changed t i c k v) (x .more)) img
+
+-- with the path to the span
+pub record CarryOn (img buffer : List ℕ) (x : Plan) (c : Change) (k v path : List ℕ) : Type 0 where
+  pub ready : CarryReady img buffer x c k v
+  pub passed : PathAt (ready .table) (suc (ready .place)) path
+
+pub record CarriedOn (img : List ℕ) (x : Plan) (c : Change) (k v path out : List ℕ) : Type 0 where
+  pub image : (r : KeyRule) (t : Table) (bs : List Block) (i : ℕ) → Carries img x c k v r t bs i → PathAt t (suc i) path
+      → out ≡ apply (writesWith t i bs (changed t i c k v) (x .more)) img

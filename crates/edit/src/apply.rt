@@ -1,9 +1,9 @@
 // A plan carried out: its entries staged, its pages drawn, its spans, its tower and its counts written.
 ghost use Prim.Native.Nat.{ℕ};
 ghost use mathlib.Core.Path.{_≡_};
-ghost use Rattle.edit.specs.Commits.{CommitReady, Committed};
+ghost use Rattle.edit.specs.Commits.{CommitReady, Committed, CommitOn, CommittedOn};
 ghost use Rattle.edit.specs.Applies.{DrawReady, DrewPlan, FlatReady, WroteFlat, TallReady, WroteTall};
-ghost use Rattle.edit.specs.Rewrites.{CarryReady, Carried};
+ghost use Rattle.edit.specs.Rewrites.{CarryReady, Carried, CarryOn, CarriedOn};
 use crate::counts::write_counts;
 use crate::plan::Plan;
 use crate::plan::write_spans;
@@ -72,33 +72,21 @@ fn commit_flat(image: &mut [u8], buffer: &mut [u8], plan: Plan)
     write_flat(image, buffer, plan)
 }
 
-// Carries out a plan with a tower. The towers around it are read before anything is written.
-fn commit_tall(image: &mut [u8], buffer: &mut [u8], plan: Plan)
-    requires { ⌜ CommitReady (now image) (now buffer) plan × (plan .wants .tower ≡ 0 → ⊥) ⌝ }
-    ensures { λ _. ⌜ Committed (now (image .entry)) (now (buffer .entry)) plan (now (image .exit)) ⌝ }
+// Carries out a plan with a tower. The towers around it are read before anything is written: those before it by the path to the span.
+fn commit_tall(image: &mut [u8], buffer: &mut [u8], plan: Plan, path: &[usize; 252])
+    requires { ⌜ CommitOn (now image) (now buffer) plan (now path) × (plan .wants .tower ≡ 0 → ⊥) ⌝ }
+    ensures { λ _. ⌜ CommittedOn (now (image .entry)) (now (buffer .entry)) plan (now (path .entry)) (now (image .exit)) ⌝ }
 {
     let mut before = [0usize; 252];
-    towers_before(image, plan.root, plan.page, &mut before);
+    towers_before(path, plan.list.head, &mut before);
     let mut after = [0usize; 252];
     towers_after(image, plan.root, &before, &mut after);
     draw_plan(image, buffer, plan);
     write_tall(image, buffer, plan, &before, &after)
 }
 
-// Carries out a plan whose entries are staged.
-fn commit(image: &mut [u8], buffer: &mut [u8], plan: Plan)
-    requires { ⌜ CommitReady (now image) (now buffer) plan ⌝ }
-    ensures { λ _. ⌜ Committed (now (image .entry)) (now (buffer .entry)) plan (now (image .exit)) ⌝ }
-{
-    if plan.wants.tower == 0 {
-        commit_flat(image, buffer, plan);
-        return;
-    }
-    commit_tall(image, buffer, plan)
-}
-
-// Carries out a plan for which there is room: its span gets its entries after the change.
-pub fn carry_out(
+// Carries out a plan without a tower for which there is room: its span gets its entries after the change.
+pub fn carry_flat(
     image: &mut [u8],
     buffer: &mut [u8],
     plan: Plan,
@@ -106,9 +94,30 @@ pub fn carry_out(
     key: &[u8],
     value: &[u8],
 )
-    requires { ⌜ CarryReady (now image) (now buffer) plan change (now key) (now value) ⌝ }
+    requires { ⌜ CarryReady (now image) (now buffer) plan change (now key) (now value) × (plan .wants .tower ≡ 0) ⌝ }
     ensures { λ _. ⌜ Carried (now (image .entry)) plan change (now (key .entry)) (now (value .entry)) (now (image .exit)) ⌝ }
 {
     stage_parts(image, buffer, plan, change, key, value);
-    commit(image, buffer, plan)
+    commit_flat(image, buffer, plan)
+}
+
+// Carries out any plan for which there is room, with the path to its span.
+pub fn carry_out(
+    image: &mut [u8],
+    buffer: &mut [u8],
+    plan: Plan,
+    change: Change,
+    key: &[u8],
+    value: &[u8],
+    path: &[usize; 252],
+)
+    requires { ⌜ CarryOn (now image) (now buffer) plan change (now key) (now value) (now path) ⌝ }
+    ensures { λ _. ⌜ CarriedOn (now (image .entry)) plan change (now (key .entry)) (now (value .entry)) (now (path .entry)) (now (image .exit)) ⌝ }
+{
+    stage_parts(image, buffer, plan, change, key, value);
+    if plan.wants.tower == 0 {
+        commit_flat(image, buffer, plan);
+        return;
+    }
+    commit_tall(image, buffer, plan, path)
 }

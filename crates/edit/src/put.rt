@@ -3,8 +3,9 @@ ghost use Rattle.edit.specs.Puts.{PutReady, PutDone};
 use crate::apply::carry_out;
 use crate::plan::make_plan;
 use crate::shape::count_conts;
+use search::path::descend;
 use search::table::TableRef;
-use search::table::find_span;
+use search::table::find_from;
 use stage::change::Change;
 use stage::change::find_spot;
 
@@ -21,7 +22,8 @@ pub fn put(
     requires { ⌜ PutReady (now image) (now scratch) table free (now key) (now value) ⌝ }
     ensures { λ r. ⌜ PutDone (now (image .entry)) table free (now (key .entry)) (now (value .entry)) r (now (image .exit)) ⌝ }
 {
-    let page = find_span(image, table, key);
+    let path = descend(image, table, key, false);
+    let page = find_from(image, table, path.pages[0], key);
     let sort = table.sort;
     let spot = find_spot(image, page, sort, key);
     let change = Change {
@@ -43,6 +45,7 @@ pub fn put(
     if old + free < plan.wants.conts + plan.wants.span + plan.wants.tower {
         return false;
     }
-    carry_out(image, scratch, plan, change, key, value);
+    let pages = path.pages;
+    carry_out(image, scratch, plan, change, key, value, &pages);
     true
 }

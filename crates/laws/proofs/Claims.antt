@@ -9,6 +9,7 @@ use Rattle.blockfile.specs.declared.Refusal.{Refusal}
 use Rattle.blockfile.specs.declared.Refusal.the-variants.{NoRoom}
 use Rattle.blockfile.specs.Bytes.{pg, apply, gather}
 use Rattle.blockfile.specs.Layout.{Table, Layout, freeCount}
+use Rattle.blockfile.specs.Order.{nameRule, keyRule}
 use Rattle.blockfile.specs.WellFormed.{count, WellFormed}
 use Rattle.blockfile.specs.Plan.{Plan, lacks}
 use Rattle.blockfile.specs.Refusals.{Op, ledgerOf, refused, handed, doneReply}
@@ -16,7 +17,10 @@ use Rattle.blockfile.specs.Answers.{refuse, planOf, lacking, noRoom, planned, o
 use Rattle.blockfile.proofs.Count.{count-append}
 use Rattle.laws.specs.FreeList.{freePages}
 use Rattle.laws.specs.Owned.{tablePages, changedBy, placeIn}
-use Rattle.laws.specs.Claims.{Decided, OneLayout, Determined, mayChange, PageStays, MetaStays, TableStays, TablesStay, Does, BytesStay, WellAfter, PutHasRoom, ReachNoFurther, RemoveWants, RemoveHasRoom}
+use Rattle.laws.specs.Claims.{Decided, OneLayout, Determined, mayChange, PageStays, MetaStays, TableStays, TablesStay, Does, BytesStay, WellAfter, PutHasRoom, ReachNoFurther, RemoveWants, RemoveHasRoom, SameSpan}
+use Rattle.laws.proofs.Orders.{names-ordered, keys-ordered}
+use Rattle.laws.proofs.Paths.{same-place}
+use Rattle.laws.proofs.TableCreate.{table-found}
 use Rattle.laws.proofs.Unique.{unique, decided as decide}
 use Rattle.laws.proofs.Determined.{determined as determine}
 use Rattle.laws.proofs.Positions.{reach-no-further as no-further}
@@ -120,3 +124,10 @@ remove-wants-few img L w n k = remove-wants L (layout-ok img L w) n k
 pub remove-has-room : RemoveHasRoom
 unfolding RemoveHasRoom
 remove-has-room img L w n k = remove-never-lacks L (layout-ok img L w) n k
+
+pub same-span : SameSpan
+unfolding SameSpan
+same-span img L w = (
+  λ name. same-place nameRule names-ordered name (L .meta) (w .metaOk),
+  λ name t f key. same-place (keyRule name) (keys-ordered name) key t (table-found (L .tables) name t (w .tablesOk) f),
+)

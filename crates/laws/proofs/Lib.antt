@@ -8,6 +8,7 @@ pub mod Maps
 pub mod Middle
 pub mod Places
 pub mod Targets
+pub mod Paths
 pub mod Columns
 pub mod Positions
 pub mod Streams

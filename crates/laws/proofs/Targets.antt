@@ -79,10 +79,10 @@ module _ (r : KeyRule) (k : List ℕ) where
 
 -- ---- The target
 
-abbrev entriesFrom : List Span → List Entry
+abbrev pub entriesFrom : List Span → List Entry
 entriesFrom ss = gather (λ s. s .entries) ss
 
-abbrev Filled : List Span → Type 0
+abbrev pub Filled : List Span → Type 0
 Filled ss = Every (λ s. 1 ≤ length (s .entries)) ss
 
 module _ (r : KeyRule) (o : Ordered r) (k : List ℕ) where

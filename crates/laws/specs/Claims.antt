@@ -8,10 +8,11 @@ use mathlib.Core.Option.{none, some}
 use lib.ListN.{length}
 use Rattle.blockfile.specs.Bytes.{pg, apply, gather}
 use Rattle.blockfile.specs.Layout.{Entry, entriesEnd, Table, Layout, columns, spansOf, towersOf}
-use Rattle.blockfile.specs.Order.{same, find}
+use Rattle.blockfile.specs.Order.{nameRule, keyRule, same, find}
 use Rattle.blockfile.specs.WellFormed.{count, WellFormed, Accepted, Rejected}
 use Rattle.blockfile.specs.Plan.{Plan, drawnBy, layoutAfter, writesOf}
-use Rattle.blockfile.specs.Put.{spanAt}
+use Rattle.blockfile.specs.Put.{target, spanAt}
+use Rattle.blockfile.specs.Path.{byTowers}
 use Rattle.blockfile.specs.Refusals.{Op, put, remove, Reply, ledgerOf, mapOf, refused}
 use Rattle.blockfile.specs.Answers.{planOf, lacking, noRoom, outcomeOn}
 use Rattle.blockfile.specs.Calls.{Keeps}
@@ -142,3 +143,12 @@ RemoveWants =
 -- and none lacks pages, however few are free
 unfoldable pub RemoveHasRoom : Type 0
 RemoveHasRoom = (img : List ℕ) (L : Layout) → WellFormed img L → (n k : List ℕ) → lacking L (planOf L (remove n k)) ≡ false
+
+-- ---- Request T-08: the search by towers gives the span that the plain search gives
+
+-- in the metaindex for every name, in a table for every key, in the order of the table's keys
+unfoldable pub SameSpan : Type 0
+SameSpan =
+    (img : List ℕ) (L : Layout) → WellFormed img L
+    → ((name : List ℕ) → byTowers nameRule name (L .meta) ≡ target nameRule name (L .meta))
+    × ((name : List ℕ) (t : Table) → find name (L .tables) ≡ some t → (key : List ℕ) → byTowers (keyRule name) key t ≡ target (keyRule name) key t)

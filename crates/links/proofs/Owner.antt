@@ -1,127 +1,155 @@
--- The tower of a span, by the last towers up to it.
-use Prim.Native.Nat.{ℕ, zero, suc, _+_, _≤_}
+-- The tower of a span, by the last towers before it: the next tower is the span's own, or names another span.
+use Prim.Native.Nat.{ℕ, zero, suc, _+_, _*_, _≤_, _<_}
 use native.Mathlib.Omega.{arith}
+use native.Mathlib.Decide.{decLt}
 use mathlib.Core.Path.{_≡_, refl, ap, sym, _∙_, subst}
-use mathlib.Core.Logic.{_≢_, _⊎_, inl, inr}
+use mathlib.Core.Logic.{_≢_, _⊎_, inl, inr, by-cases}
 use mathlib.Core.Bool.{Bool, cond}
 use mathlib.Core.Option.{some}
-use mathlib.Core.List.{List, [], _∷_, append-nil}
-use lib.ListN.{getD, take, drop}
-use lib.Seq.{drop-cons}
+use mathlib.Core.List.{List, [], _∷_, _++_, append-nil}
+use lib.ListN.{length, getD, take, drop, length-drop}
+use lib.Seq.{drop-cons, getD-drop}
 use borrow.Author.Tests.{lt-ltb}
 use Rattle.blockfile.specs.Bytes.{pg, be16, be32, Every}
-use Rattle.blockfile.specs.Layout.{Span, Tower, Column, columns, towersOf, towerIn}
+use Rattle.blockfile.specs.Layout.{Span, Tower, Column, columns, spansOf, towersOf, towerIn}
 use Rattle.blockfile.specs.Order.{Within}
-use Rattle.blockfile.specs.Put.{lastAt, spanAt}
+use Rattle.blockfile.specs.WellFormed.{nextAt}
+use Rattle.blockfile.specs.Put.{spanAt}
 use Rattle.blockfile.specs.Remove.{towersAt}
-use Rattle.laws.proofs.Places.{columnAt, span-at}
+use Rattle.laws.proofs.Places.{columnAt, span-at, drop-map}
 use Rattle.pages.specs.Places.{Inside}
 use Rattle.entries.specs.Places.{IsPage}
 use Rattle.search.specs.Tables.{Reading}
-use Rattle.links.specs.Levels.{Before, SpanAt, TowerAt}
-use Rattle.links.proofs.Distinct.{one-place}
-use Rattle.links.proofs.Standing.{AllBorne, Own, own-or-not, Names, last-first, last-with, last-names, before-page, towers-from, tall-from, head-borne}
+use Rattle.search.proofs.Distinct.{one-place}
+use Rattle.search.proofs.Towers.{AllBorne, entry-here, towers-from, head-tall, others-from}
+use Rattle.links.specs.Levels.{Preceded, TowerAt}
+use Rattle.links.proofs.Standing.{Stands, next-stands, Own, own-or-not, before-page}
+use Rattle.links.proofs.Behind.{leads}
 
--- n is the page of the tower at place i, which names the span on this page
-pub record Its {img : List ℕ} {root : ℕ} (t : Reading img root) (page i n : ℕ) : Type 0 where
-  pub tower : Tower
-  pub towers : towersAt (t .table) i ≡ tower ∷ []
-  pub is : n ≡ tower .page
-  pub height : be16 (pg img n) 10 ≡ tower .height
-  pub names : be32 (pg img n) 12 ≡ page
+module _ {img : List ℕ} {root : ℕ} {t : Reading img root} {page k : ℕ} {levels : List ℕ} (a : Preceded t page k levels) where
+  abbrev top : ℕ
+  top = t .table .head .height
 
--- or there is none there, and n names another span
-abbrev Owner : {img : List ℕ} {root : ℕ} (t : Reading img root) (page i n : ℕ) → Type 0
-Owner {img} t page i n = ((towersAt (t .table) i ≡ []) × (be32 (pg img n) 12 ≢ page)) ⊎ Its t page i n
-
--- one of the two holds of the last tower of all, at the first place
-first-owner : {img : List ℕ} {root : ℕ} (t : Reading img root) (page : ℕ) → SpanAt t page 0 → {levels : List ℕ} → Before (t .table) 1 levels → Its t page 0 (getD levels 0 0)
-unfolding spanAt
-first-owner {img} t page s {levels} b =
-    record {
-      tower = t .table .head;
-      towers = refl;
-      is = top;
-      height = ap (λ (n : ℕ). be16 (pg img n) 10) top ∙ head-borne t .0 .height;
-      names = ap (λ (n : ℕ). be32 (pg img n) 12) top ∙ head-borne t .0 .spanPage ∙ sym (s .is);
-    }
-  where
-    top : getD levels 0 0 ≡ t .table .head .page
-    top = b .last 0 (omega arith) ∙ last-first 0 (t .table .head) []
-
--- and at the others
-module _ {img : List ℕ} {root : ℕ} (t : Reading img root) (page j : ℕ) (s : SpanAt t page (suc j)) {levels : List ℕ} (b : Before (t .table) (suc (suc j)) levels) where
   abbrev here : Column
-  here = columnAt (t .table) (suc j)
+  here = columnAt (t .table) (suc k)
 
   abbrev behind : List Column
-  behind = drop (suc (suc j)) (columns (t .table))
+  behind = drop (suc (suc k)) (columns (t .table))
 
-  from-here : drop (suc j) (columns (t .table)) ≡ here ∷ behind
-  from-here = drop-cons (columns (t .table)) (suc j) (record { span = t .table .first; tower = some (t .table .head) }) (s .there)
+  from-here : drop (suc k) (columns (t .table)) ≡ here ∷ behind
+  from-here = drop-cons (columns (t .table)) (suc k) (record { span = t .table .first; tower = some (t .table .head) }) (a .at .there)
 
-  towers-here : towersAt (t .table) (suc j) ≡ towerIn (here .tower)
+  span-here : page ≡ here .span .page
+  span-here = a .at .is ∙ ap (λ (s : Span). s .page) (span-at (t .table) (suc k))
+
+  towers-here : towersAt (t .table) (suc k) ≡ towerIn (here .tower)
   towers-here = ap (λ (cs : List Column). towersOf (take 1 cs)) from-here ∙ append-nil (towerIn (here .tower))
 
-  last-here : (ws : List Tower) → towerIn (here .tower) ≡ ws
-      → getD levels 0 0 ≡ lastAt 0 (lastAt 0 (t .table .head .page) (towersOf (take (suc j) (columns (t .table))))) ws
-  last-here ws e =
-      b .last 0 (omega arith) ∙ last-with (t .table) (suc j) (s .there) 0 ∙ ap (lastAt 0 (lastAt 0 (t .table .head .page) (towersOf (take (suc j) (columns (t .table)))))) e
+  own-here : (towerIn (here .tower) ≡ []) ⊎ Own img top here behind
+  own-here =
+      own-or-not img top here behind (subst (AllBorne img) from-here (towers-from t (suc k)))
+      (subst (λ (cs : List Column). Every (λ w. Within 1 top (w .height)) (towersOf cs)) from-here (others-from t k))
 
-  named-at : (n : Names img (t .table .first) (suc j) (columns (t .table)) (getD levels 0 0)) → be32 (pg img (getD levels 0 0)) 12 ≡ spanAt (t .table) (n .0) .page
-  unfolding spanAt
-  named-at n = n .2
+  -- ---- No tower
 
-  other-owner : Owner t page (suc j) (getD levels 0 0)
-  other-owner =
-      go (own-or-not img here behind (subst (AllBorne img) from-here (towers-from t (suc j)))
-      (subst (λ (cs : List Column). Every (λ w. Within 1 252 (w .height)) (towersOf cs)) from-here (tall-from t j)))
+  none-at : towerIn (here .tower) ≡ [] → TowerAt t (suc k) 0
+  none-at e =
+      record {
+        page = λ z. absurd (z refl);
+        none = λ _. towers-here ∙ e;
+        some = λ z. absurd (z refl);
+        nexts = λ z. absurd (z refl);
+        low = λ z. absurd (z refl);
+      }
+
+  -- a path without levels: the head has none, so there is no other tower
+  pub flat-none : getD levels 0 0 ≡ 0 → TowerAt t (suc k) 0
+  flat-none z = go own-here
     where
-      none : towerIn (here .tower) ≡ [] → be32 (pg img (getD levels 0 0)) 12 ≢ page
-      none e k =
-          let n : Names img (t .table .first) (suc j) (columns (t .table)) (getD levels 0 0)
-          = subst (Names img (t .table .first) (suc j) (columns (t .table))) (sym (last-here [] e)) (last-names t j 0) in
-          omega (arith, n .1, one-place t (n .0) (suc j) (omega (arith, n .1, s .there)) (s .there) (sym (named-at n) ∙ k ∙ s .is))
+      go : (towerIn (here .tower) ≡ []) ⊎ Own img top here behind → TowerAt t (suc k) 0
+      go (inl e) = none-at e
+      go (inr o) = absurd (omega (arith, z, before-page t (a .path .before) 0 (omega (arith, o .range)) .low))
 
-      own : (o : Own img here behind) → getD levels 0 0 ≡ o .own .page
-      own o =
-          last-here (o .own ∷ []) (o .has)
-          ∙ ap (λ (v : Bool). cond v (o .own .page) (lastAt 0 (t .table .head .page) (towersOf (take (suc j) (columns (t .table)))))) (lt-ltb 0 (o .own .height) (o .range .0))
+  -- ---- The next tower
 
-      go : (towerIn (here .tower) ≡ []) ⊎ Own img here behind → Owner t page (suc j) (getD levels 0 0)
-      go (inl e) = inl (towers-here ∙ e, none e)
-      go (inr o) = inr (record {
-        tower = o .own;
-        towers = towers-here ∙ o .has;
-        is = own o;
-        height = ap (λ (n : ℕ). be16 (pg img n) 10) (own o) ∙ o .borne .0 .height;
-        names = ap (λ (n : ℕ). be32 (pg img n) 12) (own o) ∙ o .borne .0 .spanPage ∙ sym (s .is ∙ ap (λ (x : Span). x .page) (span-at (t .table) (suc j)));
-      })
+  module _ (z : getD levels 0 0 ≡ 0 → ⊥) where
+    tall : 0 < top
+    tall = by-cases (decLt 0 top) (λ l. l) (λ l. absurd (z (a .path .none 0 (omega arith) (omega arith))))
 
-owner : {img : List ℕ} {root : ℕ} (t : Reading img root) (page i : ℕ) → SpanAt t page i → {levels : List ℕ} → Before (t .table) (suc i) levels → Owner t page i (getD levels 0 0)
-owner t page zero s b = inr (first-owner t page s b)
-owner t page (suc j) s b = other-owner t page j s b
+    pub lowest-inside : Inside img (getD levels 0 0) 16 4
+    lowest-inside =
+        let p : IsPage img (getD levels 0 0) = before-page t (a .path .before) 0 tall in
+        record { small = t .readable .small; low = p .low; high = p .high; fits = omega arith }
 
--- ---- The ways through `tower_of`
+    module _ (n : ℕ) (e : n ≡ be32 (pg img (getD levels 0 0)) 16) where
+      next-here : n ≡ nextAt 0 (towerIn (here .tower) ++ towersOf behind)
+      next-here = e ∙ leads t k (a .path .before) 0 tall tall ∙ ap (λ (cs : List Column). nextAt 0 (towersOf cs)) from-here
 
-module _ {img : List ℕ} {root : ℕ} (t : Reading img root) (page i : ℕ) (s : SpanAt t page i) {levels : List ℕ} (b : Before (t .table) (suc i) levels) where
-  pub owner-inside : (o n : ℕ) → o + n ≤ 1024 → Inside img (getD levels 0 0) o n
-  owner-inside o n h =
-      let p : IsPage img (getD levels 0 0) = before-page t b 0 (omega arith) in
-      record { small = t .readable .small; low = p .low; high = p .high; fits = h }
+      -- the span's own tower is the next one
+      own-next : (o : Own img top here behind) → n ≡ o .own .page
+      own-next o =
+          next-here ∙ ap (λ (ws : List Tower). nextAt 0 (ws ++ towersOf behind)) (o .has)
+          ∙ ap (λ (b : Bool). cond b (o .own .page) (nextAt 0 (towersOf behind))) (lt-ltb 0 (o .own .height) (o .range .0))
 
-  pub owner-none : (be32 (pg img (getD levels 0 0)) 12 ≢ page) → TowerAt t i 0
-  owner-none z = record { page = λ n. absurd (n refl); none = λ _. go (owner t page i s b); some = λ n. absurd (n refl) }
-    where
-      go : Owner t page i (getD levels 0 0) → towersAt (t .table) i ≡ []
-      go (inl e) = e .0
-      go (inr o) = absurd (z (o .names))
+      own-span : (o : Own img top here behind) → be32 (pg img n) 12 ≡ page
+      own-span o = ap (λ (p : ℕ). be32 (pg img p) 12) (own-next o) ∙ o .borne .0 .spanPage ∙ sym span-here
 
-  pub owner-some : be32 (pg img (getD levels 0 0)) 12 ≡ page → TowerAt t i (getD levels 0 0)
-  owner-some k =
-      record { page = λ _. before-page t b 0 (omega arith); none = λ z. absurd (omega (arith, before-page t b 0 (omega arith) .low)); some = λ _. go (owner t page i s b) }
-    where
-      go : Owner t page i (getD levels 0 0)
-          → (w : Tower) × (towersAt (t .table) i ≡ w ∷ []) × (getD levels 0 0 ≡ w .page) × (be16 (pg img (getD levels 0 0)) 10 ≡ w .height)
-      go (inl e) = absurd (e .1 k)
-      go (inr o) = (o .tower, o .towers, o .is, o .height)
+      none-next : towerIn (here .tower) ≡ [] → n ≡ nextAt 0 (towersOf behind)
+      none-next f = next-here ∙ ap (λ (ws : List Tower). nextAt 0 (ws ++ towersOf behind)) f
+
+      pub next-inside : (n ≡ 0 → ⊥) → Inside img n 12 4
+      next-inside y =
+          let from : List Column = drop (suc k) (columns (t .table)) in
+          let is : n ≡ nextAt 0 (towersOf from) = next-here ∙ ap (λ (cs : List Column). nextAt 0 (towersOf cs)) (sym from-here) in
+          let s : Stands img (nextAt 0 (towersOf from)) from (t .table .first) = next-stands img (t .table .first) from (towers-from t (suc k)) (λ f. y (is ∙ f)) in
+          let low : 1 ≤ n = rw is (s .page .low) in
+          let high : 1024 * n ≤ length img = rw is (s .page .high) in
+          record { small = t .readable .small; low = low; high = high; fits = omega arith }
+
+      -- there is none, or it is another span's
+      pub next-none : (n ≡ 0) ⊎ (be32 (pg img n) 12 ≢ page) → TowerAt t (suc k) 0
+      next-none y = go own-here y
+        where
+          go : (towerIn (here .tower) ≡ []) ⊎ Own img top here behind → (n ≡ 0) ⊎ (be32 (pg img n) 12 ≢ page) → TowerAt t (suc k) 0
+          go (inl f) y = none-at f
+          go (inr o) (inl y) = absurd (omega (arith, own-next o, o .borne .1 .0 .low))
+          go (inr o) (inr y) = absurd (y (own-span o))
+
+      behind-at : (j : ℕ) → getD (spansOf behind) j (t .table .first) ≡ spanAt (t .table) (suc (suc k) + j)
+      unfolding spanAt
+      behind-at j =
+          ap (λ (ss : List Span). getD ss j (t .table .first)) (sym (drop-map (λ c. c .span) (suc (suc k)) (columns (t .table))))
+          ∙ getD-drop (suc (suc k)) (spansOf (columns (t .table))) j (t .table .first)
+
+      -- it is the span's own
+      module _ (y : n ≡ 0 → ⊥) (f : be32 (pg img n) 12 ≡ page) where
+        -- a tower of a later span names another page
+        later : towerIn (here .tower) ≡ [] → ⊥
+        later none =
+            let s : Stands img (nextAt 0 (towersOf behind)) behind (t .table .first)
+            = next-stands img (t .table .first) behind (towers-from t (suc (suc k))) (λ g. y (none-next none ∙ g)) in
+            let there : suc (suc k) + s .place < length (columns (t .table)) = omega (arith, s .there, length-drop (suc (suc k)) (columns (t .table))) in
+            let same : spanAt (t .table) (suc k) .page ≡ spanAt (t .table) (suc (suc k) + s .place) .page
+            = sym (a .at .is) ∙ sym f ∙ ap (λ (p : ℕ). be32 (pg img p) 12) (none-next none) ∙ s .on ∙ ap (λ (x : Span). x .page) (behind-at (s .place)) in
+            omega (arith, one-place t (suc k) (suc (suc k) + s .place) (a .at .there) there same)
+
+        own : Own img top here behind
+        own = go own-here
+          where
+            go : (towerIn (here .tower) ≡ []) ⊎ Own img top here behind → Own img top here behind
+            go (inl none) = absurd (later none)
+            go (inr o) = o
+
+        height : be16 (pg img n) 10 ≡ own .own .height
+        height = ap (λ (p : ℕ). be16 (pg img p) 10) (own-next own) ∙ own .borne .0 .height
+
+        pub next-own : TowerAt t (suc k) n
+        next-own =
+            record {
+              page = λ _. subst (IsPage img) (sym (own-next own)) (own .borne .1 .0);
+              none = λ z. absurd (y z);
+              some = λ _. (own .own, towers-here ∙ own .has, own-next own, height);
+              nexts = λ _ l m. ap (λ (p : ℕ). be32 (pg img p) (16 + 4 * l)) (own-next own)
+                  ∙ entry-here img (own .own) (here .span .page) (towersOf behind) (own .borne) l (omega (arith, height));
+              low = λ _. omega (arith, height, own .range);
+            }

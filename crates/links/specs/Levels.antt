@@ -1,10 +1,8 @@
 -- The towers around a place of a table, level by level.
-use Prim.Native.Nat.{ℕ, suc, _≤_, _<_}
+use Prim.Native.Nat.{ℕ, zero, suc, _+_, _*_, _≤_, _<_}
 use mathlib.Core.Path.{_≡_}
-use mathlib.Core.Bool.{cond}
 use mathlib.Core.List.{List, [], _∷_}
 use lib.ListN.{length, getD, take, drop}
-use lib.Dec.{eqb}
 use Rattle.blockfile.specs.Bytes.{pg, be16, be32}
 use Rattle.blockfile.specs.Layout.{Tower, Table, columns, towersOf}
 use Rattle.blockfile.specs.WellFormed.{nextAt}
@@ -19,60 +17,42 @@ pub record Filled (levels : List ℕ) (h : ℕ) (f : ℕ → ℕ) (out : List �
   pub below : (l : ℕ) → l < h → getD out l 0 ≡ f l
   pub above : (l : ℕ) → h ≤ l → getD out l 0 ≡ getD levels l 0
 
--- each level has the last tower before place j whose current is above it, the head if there is no other
-pub record Before (t : Table) (j : ℕ) (levels : List ℕ) : Type 0 where
+-- each level below h has the last tower before place j whose current is above it, the head if there is no other
+pub record Before (t : Table) (j h : ℕ) (levels : List ℕ) : Type 0 where
   pub long : length levels ≡ 252
-  pub last : (l : ℕ) → l < 252 → getD levels l 0 ≡ lastAt l (t .head .page) (towersOf (take j (columns t)))
+  pub last : (l : ℕ) → l < h → getD levels l 0 ≡ lastAt l (t .head .page) (towersOf (take j (columns t)))
 
--- each level has the next tower from place j on whose current is above it, 0 if there is none
-pub record After (t : Table) (j : ℕ) (levels : List ℕ) : Type 0 where
+-- each level below h has the next tower from place j on whose current is above it, 0 if there is none
+pub record After (t : Table) (j h : ℕ) (levels : List ℕ) : Type 0 where
   pub long : length levels ≡ 252
-  pub next : (l : ℕ) → l < 252 → getD levels l 0 ≡ nextAt l (towersOf (drop j (columns t)))
+  pub next : (l : ℕ) → l < h → getD levels l 0 ≡ nextAt l (towersOf (drop j (columns t)))
 
--- ---- towers_before
+-- ---- Places and paths
 
 -- the span on the page is at place i of the table
 pub record SpanAt {img : List ℕ} {root : ℕ} (t : Reading img root) (page i : ℕ) : Type 0 where
   pub there : i < length (columns (t .table))
   pub is : page ≡ spanAt (t .table) i .page
 
--- the span on the page is one of the table that has the skip-list page
-pub record SpanIn (img : List ℕ) (root page : ℕ) : Type 0 where
-  pub reading : Reading img root
-  pub place : ℕ
-  pub at : SpanAt reading page place
+-- the levels have the last towers before place j below the head's current, and 0 from there on
+pub record PathAt (t : Table) (j : ℕ) (levels : List ℕ) : Type 0 where
+  pub before : Before t j (t .head .height) levels
+  pub none : (l : ℕ) → t .head .height ≤ l → l < 252 → getD levels l 0 ≡ 0
 
--- the last towers up to the span on the page
+-- the path to a key that belongs in the span on the page: the last towers up to that span
+pub record PathTo (img : List ℕ) (root page : ℕ) (levels : List ℕ) : Type 0 where
+  pub is : (t : Reading img root) (i : ℕ) → SpanAt t page i → PathAt (t .table) (suc i) levels
+
+-- ---- towers_before
+
+-- a page of a path; the head where there is none
+abbrev pub orHead : (head page : ℕ) → ℕ
+orHead head zero = head
+orHead head (suc n) = suc n
+
+-- the last towers up to the span on the page, at every level
 pub record BeforeIn (img : List ℕ) (root page : ℕ) (levels : List ℕ) : Type 0 where
-  pub is : (t : Reading img root) (i : ℕ) → SpanAt t page i → Before (t .table) (suc i) levels
-
--- the next tower behind the span on the page, 0 for none
-pub record NextIn (img : List ℕ) (root page n : ℕ) : Type 0 where
-  pub is : (t : Reading img root) (i : ℕ) → SpanAt t page i → n ≡ nextAt 0 (towersOf (drop (suc i) (columns (t .table))))
-
--- entry 0 of the tower on the page; 0 if it has no entries
-unfoldable pub firstEntry : (img : List ℕ) (page : ℕ) → ℕ
-firstEntry img n = cond (eqb (be16 (pg img n) 10) 0) 0 (be32 (pg img n) 16)
-
--- a walk along the spans of the table is at the span at place i, not the first, the one on page `span`: `tower` is the next tower from there on, 0 for
--- none, and each level has the last tower before the place
-pub record Arrived {img : List ℕ} {root : ℕ} (t : Reading img root) (span tower i : ℕ) (levels : List ℕ) : Type 0 where
-  pub at : SpanAt t span i
-  pub behind : 1 ≤ i
-  pub next : tower ≡ nextAt 0 (towersOf (drop i (columns (t .table))))
-  pub last : Before (t .table) i levels
-
--- there is such a walk
-pub record Arrives (img : List ℕ) (span tower : ℕ) (levels : List ℕ) : Type 0 where
-  pub root : ℕ
-  pub reading : Reading img root
-  pub place : ℕ
-  pub arrived : Arrived reading span tower place levels
-
--- behind the span, r is the next tower and `out` has the last ones
-pub record Passed (img : List ℕ) (span tower : ℕ) (levels : List ℕ) (r : ℕ) (out : List ℕ) : Type 0 where
-  pub next : (root : ℕ) (t : Reading img root) (i : ℕ) → Arrived t span tower i levels → r ≡ nextAt 0 (towersOf (drop (suc i) (columns (t .table))))
-  pub last : (root : ℕ) (t : Reading img root) (i : ℕ) → Arrived t span tower i levels → Before (t .table) (suc i) out
+  pub is : (t : Reading img root) (i : ℕ) → SpanAt t page i → Before (t .table) (suc i) 252 levels
 
 -- ---- towers_after
 
@@ -80,28 +60,33 @@ pub record Passed (img : List ℕ) (span tower : ℕ) (levels : List ℕ) (r : �
 pub record HasBefore (img : List ℕ) (root : ℕ) (levels : List ℕ) : Type 0 where
   pub reading : Reading img root
   pub place : ℕ
-  pub before : Before (reading .table) (suc place) levels
+  pub before : Before (reading .table) (suc place) 252 levels
 
 -- with the last towers before any such place, `out` has the next ones
 pub record AfterIn (img : List ℕ) (root : ℕ) (levels out : List ℕ) : Type 0 where
-  pub is : (t : Reading img root) (i : ℕ) → Before (t .table) (suc i) levels → After (t .table) (suc i) out
+  pub is : (t : Reading img root) (i : ℕ) → Before (t .table) (suc i) 252 levels → After (t .table) (suc i) 252 out
 
 -- ---- tower_of
 
--- the levels have the last towers up to the span on the page
-pub record HasTowers (img : List ℕ) (page : ℕ) (levels : List ℕ) : Type 0 where
+-- the span on the page is at place k + 1, and the path has the last towers before it
+pub record Preceded {img : List ℕ} {root : ℕ} (t : Reading img root) (page k : ℕ) (levels : List ℕ) : Type 0 where
+  pub at : SpanAt t page (suc k)
+  pub path : PathAt (t .table) (suc k) levels
+
+pub record Precedes (img : List ℕ) (page : ℕ) (levels : List ℕ) : Type 0 where
   pub root : ℕ
   pub reading : Reading img root
   pub place : ℕ
-  pub at : SpanAt reading page place
-  pub before : Before (reading .table) (suc place) levels
+  pub is : Preceded reading page place levels
 
--- r is the page of the tower at place i of the table, 0 if there is none
+-- r is the page of the tower at place i of the table, 0 if there is none; its entries are the next towers behind it
 pub record TowerAt {img : List ℕ} {root : ℕ} (t : Reading img root) (i r : ℕ) : Type 0 where
   pub page : (r ≡ 0 → ⊥) → IsPage img r
   pub none : r ≡ 0 → towersAt (t .table) i ≡ []
   pub some : (r ≡ 0 → ⊥) → (w : Tower) × (towersAt (t .table) i ≡ w ∷ []) × (r ≡ w .page) × (be16 (pg img r) 10 ≡ w .height)
+  pub nexts : (r ≡ 0 → ⊥) → (l : ℕ) → l < be16 (pg img r) 10 → be32 (pg img r) (16 + 4 * l) ≡ nextAt l (towersOf (drop (suc i) (columns (t .table))))
+  pub low : (r ≡ 0 → ⊥) → be16 (pg img r) 10 ≤ t .table .head .height
 
--- wherever the span on the page is at a place and the levels have the last towers up to it
+-- wherever the span on the page is at a place and the path has the last towers before it
 pub record TowerOn (img : List ℕ) (page : ℕ) (levels : List ℕ) (r : ℕ) : Type 0 where
-  pub is : (root : ℕ) (t : Reading img root) (i : ℕ) → SpanAt t page i → Before (t .table) (suc i) levels → TowerAt t i r
+  pub is : (root : ℕ) (t : Reading img root) (k : ℕ) → Preceded t page k levels → TowerAt t (suc k) r

@@ -1,9 +1,10 @@
 // The towers around a place of a table: for each level the last tower before it, and the next one from there on.
-ghost use Prim.Native.Nat.{_≤_};
+ghost use Prim.Native.Nat.{_+_, _*_, _≤_};
 ghost use mathlib.Core.Path.{_≡_};
-ghost use lib.ListN.{length};
+ghost use lib.ListN.{length, getD};
+ghost use Rattle.blockfile.specs.Bytes.{pg, be32};
 ghost use Rattle.pages.specs.Places.{Inside};
-ghost use Rattle.links.specs.Levels.{Filled, SpanIn, BeforeIn, NextIn, firstEntry, Arrives, Passed, HasBefore, AfterIn, HasTowers, TowerOn};
+ghost use Rattle.links.specs.Levels.{Filled, orHead, HasBefore, AfterIn, Precedes, TowerOn};
 use pages::read::get16;
 use pages::read::get32;
 
@@ -19,45 +20,22 @@ pub fn fill(levels: &mut [usize; 252], height: usize, page: usize)
     }
 }
 
-// The next tower after the one on `page`, 0 for none. Of height 0, without entries, is only a head that no tower follows.
-fn next_tower(image: &[u8], page: usize) -> usize
-    requires { ⌜ Inside (now image) page 0 1024 ⌝ }
-    ensures { λ r. ⌜ r ≡ firstEntry (now (image .entry)) page ⌝ }
+fn or_head(head: usize, page: usize) -> usize
+    ensures { λ r. ⌜ r ≡ orHead head page ⌝ }
 {
-    if get16(image, page, 10) == 0 {
-        return 0;
-    }
-    get32(image, page, 16)
+    if page == 0 { head } else { page }
 }
 
-// The walk passes the span on `span`. If the next tower is the span's, it is now the last one at each of its levels.
-// Answers the next tower behind the span.
-pub fn pass_span(image: &[u8], span: usize, tower: usize, before: &mut [usize; 252]) -> usize
-    requires { ⌜ Arrives (now image) span tower (now before) ⌝ }
-    ensures { λ r. ⌜ Passed (now (image .entry)) span tower (now (before .entry)) r (now (before .exit)) ⌝ }
+// For each level the tower of the path; the head from the path's height on, where it has 0.
+pub fn towers_before(path: &[usize; 252], head: usize, before: &mut [usize; 252])
+    requires { ⌜ (length (now path) ≡ 252) × (length (now before) ≡ 252) ⌝ }
+    ensures { λ _. ⌜ Filled (now (before .entry)) 252 (λ l. orHead head (getD (now (path .entry)) l 0)) (now (before .exit)) ⌝ }
 {
-    if tower == 0 || get32(image, tower, 12) != span {
-        return tower;
+    let mut i = 0;
+    while i < 252 {
+        before[i] = or_head(head, path[i]);
+        i += 1;
     }
-    fill(before, get16(image, tower, 10), tower);
-    next_tower(image, tower)
-}
-
-// For each level the page of the last tower that reaches above it, of the spans up to the one on `target`; the head's if
-// no other does. Answers the next tower behind that span, 0 for none.
-pub fn towers_before(image: &[u8], root: usize, target: usize, before: &mut [usize; 252]) -> usize
-    requires { ⌜ SpanIn (now image) root target × (length (now before) ≡ 252) ⌝ }
-    ensures { λ r. ⌜ BeforeIn (now (image .entry)) root target (now (before .exit)) × NextIn (now (image .entry)) root target r ⌝ }
-{
-    let head = get32(image, root, 12);
-    fill(before, 252, head);
-    let mut span = get32(image, root, 8);
-    let mut tower = next_tower(image, head);
-    while span != target {
-        span = get32(image, span, 12);
-        tower = pass_span(image, span, tower, before);
-    }
-    tower
 }
 
 // For each level the page of the next tower after the one in `before`, 0 for none: no tower is higher than the head.
@@ -74,15 +52,34 @@ pub fn towers_after(image: &[u8], root: usize, before: &[usize; 252], after: &mu
     }
 }
 
-// The page of the tower of the span on `target`, 0 if it has none, where `before` has the last towers up to that span: the
-// last of all is the span's if it names the span.
-pub fn tower_of(image: &[u8], target: usize, before: &[usize; 252]) -> usize
-    requires { ⌜ HasTowers (now image) target (now before) ⌝ }
-    ensures { λ r. ⌜ TowerOn (now (image .entry)) target (now (before .entry)) r ⌝ }
+// The page of the tower of the span on `page`, 0 if it has none, where the path has the last towers before that span: the next tower is
+// the span's if it names the span. A path without levels is that of a table with no tower but the head.
+pub fn tower_of(image: &[u8], path: &[usize; 252], page: usize) -> usize
+    requires { ⌜ Precedes (now image) page (now path) ⌝ }
+    ensures { λ r. ⌜ TowerOn (now (image .entry)) page (now (path .entry)) r ⌝ }
 {
-    let last = before[0];
-    if get32(image, last, 12) != target {
+    let lowest = path[0];
+    if lowest == 0 {
         return 0;
     }
-    last
+    let next = get32(image, lowest, 16);
+    if next == 0 {
+        return 0;
+    }
+    if get32(image, next, 12) != page {
+        return 0;
+    }
+    next
+}
+
+// The first `height` entries of the tower on the page.
+pub fn get_entries(image: &[u8], page: usize, height: usize, nexts: &mut [usize; 252])
+    requires { ⌜ Inside (now image) page 0 1024 × (height ≤ 252) × (length (now nexts) ≡ 252) ⌝ }
+    ensures { λ _. ⌜ Filled (now (nexts .entry)) height (λ l. be32 (pg (now (image .entry)) page) (16 + 4 * l)) (now (nexts .exit)) ⌝ }
+{
+    let mut i = 0;
+    while i < height {
+        nexts[i] = get32(image, page, 16 + 4 * i);
+        i += 1;
+    }
 }

@@ -1,15 +1,18 @@
 -- The ways through `leave`: the span's own pages are enough.
 use Prim.Native.Nat.{ℕ, _/_}
 use native.Mathlib.Omega.{arith}
+use mathlib.Core.Path.{_≡_, ap}
 use mathlib.Core.List.{List, []}
 use lib.ListN.{length}
 use Rattle.blockfile.specs.Layout.{Table, Block}
 use Rattle.blockfile.specs.Order.{KeyRule}
+use Rattle.blockfile.specs.Put.{Parts}
+use Rattle.laws.proofs.Splits.{parts-plain}
 use Rattle.edit.specs.declared.plan.Plan.{Plan}
 use Rattle.edit.specs.Makes.{PlanReady, PlanFor}
 use Rattle.edit.specs.Rewrites.{Carries, CarryReady, Carried}
-use Rattle.edit.proofs.Rewritings.{plan-ready, carries, written}
-use Rattle.remove.specs.Leaves.{takenOut, LeaveOf, LeaveReady, Left}
+use Rattle.edit.proofs.Rewritings.{plan-is, plan-ready, carries, written}
+use Rattle.remove.specs.Leaves.{takenOut, others, LeaveOf, LeaveReady, Left}
 
 pub planned : {img scratch : List ℕ} {root page index : ℕ} → LeaveReady img scratch root page index → PlanReady img root page (takenOut index) 0
 planned h = plan-ready (h .is .rewrite) (omega arith)
@@ -18,9 +21,13 @@ module _ {img : List ℕ} {root page index : ℕ} {x : Plan} (q : PlanFor img ro
   carried-for : {r : KeyRule} {t : Table} {bs : List Block} {i : ℕ} → LeaveOf img root page index r t bs i → Carries img x (takenOut index) [] [] r t bs i
   carried-for o = carries (o .rewrite) q (omega (arith, o .wants))
 
-  pub carry-ready : {scratch : List ℕ} → LeaveReady img scratch root page index → CarryReady img scratch x (takenOut index) [] []
-  carry-ready h =
-      record { rule = h .rule; table = h .table; blocks = h .blocks; place = h .place; carries = carried-for (h .is); lent = h .lent }
+  -- so there is no split, and no tower
+  flat : {r : KeyRule} {t : Table} {bs : List Block} {i : ℕ} → LeaveOf img root page index r t bs i → x .wants .tower ≡ 0
+  flat {t = t} {i = i} o =
+      omega (arith, plan-is (o .rewrite) q .wants .tower, ap (λ (p : Parts). p .height) (parts-plain t (others t i index) (o .fits)))
+
+  pub carry-ready : {scratch : List ℕ} → LeaveReady img scratch root page index → CarryReady img scratch x (takenOut index) [] [] × (x .wants .tower ≡ 0)
+  carry-ready h = (record { rule = h .rule; table = h .table; blocks = h .blocks; place = h .place; carries = carried-for (h .is); lent = h .lent }, flat (h .is))
 
   pub left : {out : List ℕ} → Carried img x (takenOut index) [] [] out → Left img root page index out
-  left d = record { image = λ r t bs i o. written (o .rewrite) q (omega (arith, o .wants)) d }
+  left d = record { image = λ r t bs i o. written (o .rewrite) q (omega (arith, o .wants)) (d .image r t bs i (carried-for o)) }

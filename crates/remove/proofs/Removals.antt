@@ -3,22 +3,28 @@ use Prim.Native.Nat.{ℕ, zero, suc, _+_, _≤_, _<_}
 use native.Mathlib.Omega.{arith}
 use mathlib.Core.Path.{_≡_, refl, ap, sym, _∙_, subst}
 use mathlib.Core.Logic.{_⊎_, inl, inr}
-use mathlib.Core.Bool.{true, false, true≢false}
+use mathlib.Core.Bool.{Bool, true, false, cond, true≢false}
 use mathlib.Core.List.{List, [], _∷_}
 use mathlib.Core.Option.{none, some}
 use lib.ListN.{length}
+use lib.Dec.{T}
 use Rattle.blockfile.specs.Bytes.{Write, apply}
 use Rattle.blockfile.specs.Layout.{Entry, Table, Layout, columns, entriesOf}
-use Rattle.blockfile.specs.Order.{keyRule, find, erase}
+use Rattle.blockfile.specs.Order.{keyRule, same, find, erase}
 use Rattle.blockfile.specs.Plan.{writesOf}
 use Rattle.blockfile.specs.Put.{spanAt, parts, wantedBy, rewritePlan}
 use Rattle.blockfile.specs.Remove.{unlinkPlan, leavePlan, removePlan}
+use Rattle.blockfile.proofs.Bools.{same-eq}
 use Rattle.laws.proofs.Orders.{keys-ordered}
 use Rattle.laws.proofs.Targets.{target-is, find-at}
+use Rattle.laws.proofs.Paths.{BeginsWith}
 use Rattle.laws.proofs.TableRemove.{left-fits}
 use Rattle.laws.proofs.Room.{left-wants}
 use Rattle.search.specs.declared.table.TableRef.{TableRef}
+use Rattle.search.specs.declared.path.Path.{Path}
 use Rattle.search.specs.Tables.{TargetIn}
+use Rattle.search.specs.Paths.{PathIn}
+use Rattle.links.proofs.Leading.{path-strict}
 use Rattle.stage.specs.declared.change.Spot.{Spot}
 use Rattle.stage.specs.Changes.{spliced, Fits, Spotted, SpottedOn}
 use Rattle.stage.proofs.Splices.{length-spliced}
@@ -37,6 +43,16 @@ use Rattle.remove.proofs.Unlinkings.{prev-is}
 no-entries : (es : List Entry) → length es ≡ 0 → es ≡ []
 no-entries [] e = refl
 no-entries (x ∷ es) e = absurd (omega arith)
+
+-- one entry, and the key is among them
+only-key : (k v : List ℕ) (es : List Entry) → length es ≡ 1 → find k es ≡ some v → BeginsWith k es
+only-key k v [] n f = absurd (omega arith)
+only-key k v (e ∷ []) n f = sym (same-eq k (e .key) (go (same k (e .key)) f))
+  where
+    go : (b : Bool) → cond b (some (e .value)) none ≡ some v → T b
+    go true f = tt
+    go false f = absurd (let z : _≡_ {A = ℕ} 0 1 = cc in omega arith)
+only-key k v (e ∷ (x ∷ es)) n f = absurd (omega arith)
 
 -- a span that is the first, or keeps entries, is rewritten
 leave-rewrites : (L : Layout) (name : List ℕ) (t : Table) (i : ℕ) (es : List Entry) → (i ≡ 0) ⊎ (es ≡ [] → ⊥) → leavePlan L name t i es ≡ rewritePlan L name t i es
@@ -102,6 +118,7 @@ module _ {img : List ℕ} {d : TableRef} {L : Layout} {name : List ℕ} {t : Tab
               change = record { inside = inside a k; at = f .is (reading a); fits = fits };
               few = subst (λ (l : List Entry). length l ≤ t .spanSize + 1) (sym erased) (omega (arith, left-fits (keyRule name) (keys-ordered name) t (ok a k) k));
             };
+            fits = subst (λ (l : List Entry). length l ≤ t .spanSize) (sym erased) (left-fits (keyRule name) (keys-ordered name) t (ok a k) k);
             wants = subst (λ (l : List Entry). wantedBy (parts t l) ≤ length (spanAt t i .conts)) (sym erased) (left-wants name t (ok a k) k);
           }
 
@@ -124,26 +141,35 @@ module _ {img : List ℕ} {d : TableRef} {L : Layout} {name : List ℕ} {t : Tab
           none-left : erase k es ≡ []
           none-left = no-entries (erase k es) (omega (arith, one-fewer, links-of .size, n .1))
 
-          unlink-of : UnlinkOf img (d .root) page x (keyRule name) t (L .free) (later .0)
-          unlink-of =
+          begins : BeginsWith k (spanAt t (suc (later .0)) .entries)
+          begins =
+              let w = sp .found is-one in
+              subst (λ (m : ℕ). BeginsWith k (spanAt t m .entries)) (later .1) (only-key k (w .0) es (omega (arith, links-of .size, n .1)) (w .1))
+
+          here-inside : suc (later .0) < length (columns t)
+          here-inside = subst (λ (m : ℕ). m < length (columns t)) (later .1) (inside a k)
+
+          unlink-of : {path : Path} → PathIn img d k true path → UnlinkOf img (d .root) page x (path .pages) (keyRule name) t (L .free) (later .0)
+          unlink-of p =
               record {
                 gone = record {
                   standing = table-standing img L (a .well) name t (a .found);
                   at = sym (a .at);
-                  inside = subst (λ (m : ℕ). m < length (columns t)) (later .1) (inside a k);
+                  inside = here-inside;
                   here = subst (λ (m : ℕ). page ≡ spanAt t m .page) (later .1) (f .is (reading a));
                 };
                 links = subst (λ (m : ℕ). LinksOf (hereAt t m) x) (later .1) links-of;
+                passed = path-strict (reading a) k p (later .0) here-inside begins;
               }
 
           gone-plan : removePlan L name t k ≡ unlinkPlan L name t (suc (later .0))
           unfolding removePlan
           gone-plan = λ j. leavePlan L name t (later .1 j) (none-left j)
 
-          gone-done : {out : List ℕ} → Unlinked img (d .root) page x out → out ≡ apply (writesOf L (removePlan L name t k)) img
+          gone-done : {path : Path} → PathIn img d k true path → {out : List ℕ} → Unlinked img (d .root) page x (path .pages) out → out ≡ apply (writesOf L (removePlan L name t k)) img
           unfolding writesOf unlinkPlan
-          gone-done {out} u =
-              subst (λ p. out ≡ apply (writesOf L p) img) (sym gone-plan) (u .image (keyRule name) t (L .free) (later .0) unlink-of)
+          gone-done p {out} u =
+              subst (λ q. out ≡ apply (writesOf L q) img) (sym gone-plan) (u .image (keyRule name) t (L .free) (later .0) (unlink-of p))
 
         -- ---- The span is rewritten
 
@@ -173,9 +199,10 @@ module _ {img : List ℕ} {d : TableRef} {L : Layout} {name : List ℕ} {t : Tab
 
 module _ {img scratch : List ℕ} {d : TableRef} {k : List ℕ} (h : RemoveReady img scratch d k) (page : ℕ) (f : TargetIn img d k page)
     (s : Spot) (g : SpottedOn img page (d .sort) k s) (there : s .there ≡ 0 → ⊥) where
-  pub unlink-ready : (x : Links) → LinksRead img page x → (x .prev ≡ 0 → ⊥) × (x .size ≡ 1) → UnlinkReady img (d .root) page x
-  unlink-ready x y n =
-      record { rule = keyRule (h .name); table = h .table; blocks = h .layout .free; place = _; is = unlink-of (h .is) k page f s g there x y n }
+  pub unlink-ready : (x : Links) → LinksRead img page x → (x .prev ≡ 0 → ⊥) × (x .size ≡ 1) → {path : Path} → PathIn img d k true path
+      → UnlinkReady img (d .root) page x (path .pages)
+  unlink-ready x y n p =
+      record { rule = keyRule (h .name); table = h .table; blocks = h .layout .free; place = _; is = unlink-of (h .is) k page f s g there x y n p }
 
   pub leave-ready : LeaveReady img scratch (d .root) page (s .index)
   leave-ready =
@@ -192,8 +219,9 @@ module _ {img : List ℕ} {d : TableRef} {k : List ℕ} (page : ℕ) (f : Target
         → RemoveDone img d k true out
     was-there h = record { done = λ e L name t a. (found a k page f s g there, h L name t a); missing = λ e. absurd (true≢false e) }
 
-    pub went : (x .prev ≡ 0 → ⊥) × (x .size ≡ 1) → {out : List ℕ} → Unlinked img (d .root) page x out → RemoveDone img d k true out
-    went n u = was-there (λ L name t a. gone-done a k page f s g there x y n u)
+    pub went : (x .prev ≡ 0 → ⊥) × (x .size ≡ 1) → {path : Path} → PathIn img d k true path → {out : List ℕ} → Unlinked img (d .root) page x (path .pages) out
+        → RemoveDone img d k true out
+    went n p u = was-there (λ L name t a. gone-done a k page f s g there x y n p u)
 
     pub stayed : (x .prev ≡ 0) ⊎ (x .size ≡ 1 → ⊥) → {out : List ℕ} → Left img (d .root) page (s .index) out → RemoveDone img d k true out
     stayed n w = was-there (λ L name t a. left-done a k page f s g there x y n w)

@@ -23,6 +23,7 @@ use Rattle.pages.specs.Places.{Inside}
 use Rattle.entries.specs.Places.{IsPage}
 use Rattle.search.specs.Tables.{Reading}
 use Rattle.links.specs.Links.{linkWrites, Linkable}
+use Rattle.links.specs.Levels.{Preceded, Precedes}
 use Rattle.links.proofs.Relinked.{before-linkable, gone-links}
 use Rattle.edit.specs.declared.fields.Links.{Links}
 use Rattle.edit.specs.declared.fields.SkipList.{SkipList}
@@ -34,7 +35,7 @@ use Rattle.edit.proofs.Stands.{besides, in-hand, span-borne, past-inside, past-
 use Rattle.remove.specs.declared.tower.OwnTower.{OwnTower}
 use Rattle.remove.specs.declared.unlink.Going.{Going}
 use Rattle.remove.specs.Gone.{pageIn, SpanInHand, GoneReady, GaveGone}
-use Rattle.remove.specs.Towers.{FollowsAt, Follows, FoundTower}
+use Rattle.remove.specs.Towers.{FoundTower}
 use Rattle.remove.specs.Unlinks.{aroundWrites, SpansReady, lowered, CountsReady, GoneAt, unlinkWrites, GoingAt, LetGo, UnlinkOf, Unlinked}
 
 -- ---- `link_spans`
@@ -104,7 +105,7 @@ module _ (t : Table) (k : ℕ) (inside : suc k < length (columns t)) where
 
 -- ---- `let_go`
 
-module _ {img : List ℕ} {x : Going} {w : OwnTower} {r : KeyRule} {t : Table} {bs : List Block} {k : ℕ} (h : GoingAt img x w r t bs k) where
+module _ {img : List ℕ} {x : Going} {w : OwnTower} {path : List ℕ} {r : KeyRule} {t : Table} {bs : List Block} {k : ℕ} (h : GoingAt img x w path r t bs k) where
   abbrev g : GoneAt img (x .root) (x .page) r t bs k
   g = h .gone
 
@@ -153,7 +154,7 @@ module _ {img : List ℕ} {x : Going} {w : OwnTower} {r : KeyRule} {t : Table} {
   abbrev reading : Reading img (x .root)
   reading = record { rule = r; table = t; readable = g .standing .readable; root = sym (g .at) }
 
-  pub levels-ready : {out : List ℕ} → length out ≡ length img → Linkable out (w .before) (w .height)
+  pub levels-ready : {out : List ℕ} → length out ≡ length img → Linkable out path (w .height)
   levels-ready {out} e = before-linkable reading (suc k) (w .height) (h .tower .low) (h .tower .before) out e
 
   one-tower : length (towersAt t (suc k)) ≡ min 1 (w .page)
@@ -178,12 +179,12 @@ module _ {img : List ℕ} {x : Going} {w : OwnTower} {r : KeyRule} {t : Table} {
       ap (λ (n : ℕ). takeMany n bs .writes ++ giveMany (spanAt t (suc k) .conts ++ (spanAt t (suc k) .page ∷ map (λ u. u .page) (towersAt t (suc k)))) (takeMany n bs .free) .writes) z
       ∙ ap₂ (λ (n : ℕ) (ns : List ℕ). giveMany (spanAt t (suc k) .conts ++ (n ∷ ns)) bs .writes) (sym (g .here)) (h .tower .pages)
 
-  levels-coded : gather (λ u. relink (without t (suc k)) (suc k) (u .height)) (towersAt t (suc k)) ≡ linkWrites (w .before) (w .after) (w .height)
+  levels-coded : gather (λ u. relink (without t (suc k)) (suc k) (u .height)) (towersAt t (suc k)) ≡ linkWrites path (w .after) (w .height)
   unfolding relink
   levels-coded =
       gathered (relink (without t (suc k)) (suc k)) (λ u. u .height) (towersAt t (suc k)) ∙ ap (gather (relink (without t (suc k)) (suc k))) (h .tower .heights)
       ∙ go (w .page) (h .tower .flat)
-      ∙ sym (gone-links t k (g .inside) (w .height) (w .before) (w .after) (h .tower .low) (h .tower .before) (h .tower .after))
+      ∙ sym (gone-links t k (g .inside) (w .height) path (w .after) (h .tower .before) (h .tower .after))
     where
       go : (n : ℕ) → (n ≡ 0 → w .height ≡ 0) → gather (relink (without t (suc k)) (suc k)) (map (λ _. w .height) (pageIn n)) ≡ relink (without t (suc k)) (suc k) (w .height)
       go zero z = ap (relink (without t (suc k)) (suc k)) (sym (z refl))
@@ -206,49 +207,45 @@ module _ {img : List ℕ} {x : Going} {w : OwnTower} {r : KeyRule} {t : Table} {
       ∙ (λ j. aroundWrites (sym prev-at j) (sym next-at j) ++ ws)
 
   links-coded : unlinking (without t (suc k)) (suc k) (towersAt t (suc k))
-      ≡ aroundWrites (x .links .prev) (x .links .next) ++ (linkWrites (w .before) (w .after) (w .height) ++ lowered x (w .page))
+      ≡ aroundWrites (x .links .prev) (x .links .next) ++ (linkWrites path (w .after) (w .height) ++ lowered x (w .page))
   unfolding unlinking
   links-coded =
       spans-coded (gather (λ u. relink (without t (suc k)) (suc k) (u .height)) (towersAt t (suc k)) ++ (countsOn (without t (suc k)) ∷ []))
       ∙ (λ j. aroundWrites (x .links .prev) (x .links .next) ++ (levels-coded j ++ counts-coded j))
 
   written : {out1 out2 out3 out4 : List ℕ} → GaveGone img (x .links .first) (x .page) (w .page) out1 → out2 ≡ apply (aroundWrites (x .links .prev) (x .links .next)) out1
-      → out3 ≡ apply (linkWrites (w .before) (w .after) (w .height)) out2 → out4 ≡ apply (lowered x (w .page)) out3 → out4 ≡ apply (unlinkWrites t k bs) img
+      → out3 ≡ apply (linkWrites path (w .after) (w .height)) out2 → out4 ≡ apply (lowered x (w .page)) out3 → out4 ≡ apply (unlinkWrites t k bs) img
   written {out1} a b c d =
       let gs : List Write = giveMany (spanAt t (suc k) .conts ++ (x .page ∷ pageIn (w .page))) bs .writes in
       let ss : List Write = aroundWrites (x .links .prev) (x .links .next) in
-      let ls : List Write = linkWrites (w .before) (w .after) (w .height) in
+      let ls : List Write = linkWrites path (w .after) (w .height) in
       d ∙ ap (apply (lowered x (w .page))) (c ∙ ap (apply ls) (b ∙ ap (apply ss) (a .image span)))
       ∙ sym (apply-append ls (lowered x (w .page)) (apply ss (apply gs img)))
       ∙ sym (apply-append ss (ls ++ lowered x (w .page)) (apply gs img))
       ∙ sym (apply-append gs (ss ++ (ls ++ lowered x (w .page))) img)
       ∙ ap₂ (λ (p q : List Write). apply (p ++ q) img) (sym given-coded) (sym links-coded)
 
-pub let-go : {img : List ℕ} {x : Going} {w : OwnTower} {out1 out2 out3 out4 : List ℕ} → GaveGone img (x .links .first) (x .page) (w .page) out1
-    → out2 ≡ apply (aroundWrites (x .links .prev) (x .links .next)) out1 → out3 ≡ apply (linkWrites (w .before) (w .after) (w .height)) out2
-    → out4 ≡ apply (lowered x (w .page)) out3 → LetGo img x w out4
+pub let-go : {img : List ℕ} {x : Going} {w : OwnTower} {path out1 out2 out3 out4 : List ℕ} → GaveGone img (x .links .first) (x .page) (w .page) out1
+    → out2 ≡ apply (aroundWrites (x .links .prev) (x .links .next)) out1 → out3 ≡ apply (linkWrites path (w .after) (w .height)) out2
+    → out4 ≡ apply (lowered x (w .page)) out3 → LetGo img x w path out4
 let-go a b c d = record { image = λ r t bs k h. written h a b c d }
 
 -- ---- `unlink`
 
-module _ {img : List ℕ} {root page : ℕ} {x : Links} {r : KeyRule} {t : Table} {bs : List Block} {k : ℕ} (u : UnlinkOf img root page x r t bs k) where
+module _ {img : List ℕ} {root page : ℕ} {x : Links} {path : List ℕ} {r : KeyRule} {t : Table} {bs : List Block} {k : ℕ} (u : UnlinkOf img root page x path r t bs k) where
   abbrev pub table-read : Reading img root
   table-read = record { rule = r; table = t; readable = u .gone .standing .readable; root = sym (u .gone .at) }
 
-  follows-at : FollowsAt table-read (x .prev) page k
-  follows-at =
-      record {
-        before = record { there = omega (arith, u .gone .inside); is = u .links .prev ∙ prev-is t k (u .gone .inside) };
-        here = record { there = u .gone .inside; is = u .gone .here };
-      }
+  preceded : Preceded table-read page k path
+  preceded = record { at = record { there = u .gone .inside; is = u .gone .here }; path = u .passed }
 
-  pub follows : Follows img root (x .prev) page
-  follows = record { reading = table-read; place = k; at = follows-at }
+  pub precedes : Precedes img page path
+  precedes = record { root = root; reading = table-read; place = k; is = preceded }
 
-  pub going-at : {l : SkipList} {w : OwnTower} → ListRead img root l → FoundTower img root (x .prev) page w
-      → GoingAt img (record { root = root; page = page; list = l; links = x }) w r t bs k
-  going-at l w = record { gone = u .gone; list = l .is table-read; links = u .links; tower = w .is table-read k follows-at }
+  pub going-at : {l : SkipList} {w : OwnTower} → ListRead img root l → FoundTower img page path w
+      → GoingAt img (record { root = root; page = page; list = l; links = x }) w path r t bs k
+  going-at l w = record { gone = u .gone; list = l .is table-read; links = u .links; tower = w .is root table-read k preceded }
 
-pub unlinked : {img : List ℕ} {root page : ℕ} {x : Links} {l : SkipList} {w : OwnTower} {out : List ℕ} → ListRead img root l → FoundTower img root (x .prev) page w
-    → LetGo img (record { root = root; page = page; list = l; links = x }) w out → Unlinked img root page x out
+pub unlinked : {img : List ℕ} {root page : ℕ} {x : Links} {path : List ℕ} {l : SkipList} {w : OwnTower} {out : List ℕ} → ListRead img root l → FoundTower img page path w
+    → LetGo img (record { root = root; page = page; list = l; links = x }) w path out → Unlinked img root page x path out
 unlinked l w g = record { image = λ r t bs k u. g .image r t bs k (going-at u l w) }

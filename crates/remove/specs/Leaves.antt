@@ -18,9 +18,10 @@ takenOut j = record { index = j; drops = 1; adds = 0 }
 abbrev pub others : Table → (i index : ℕ) → List Entry
 others t i j = changed t i (takenOut j) [] []
 
--- the span on the page is at place i of the table, and the others want no pages but its own
+-- the span on the page is at place i of the table; the others are no more than a span may have, and want no pages but its own
 pub record LeaveOf (img : List ℕ) (root page index : ℕ) (r : KeyRule) (t : Table) (bs : List Block) (i : ℕ) : Type 0 where
   pub rewrite : RewriteOf img root page (takenOut index) [] [] r t bs i
+  pub fits : length (others t i index) ≤ t .spanSize
   pub wants : wantedBy (parts t (others t i index)) ≤ length (spanAt t i .conts)
 
 pub record LeaveReady (img scratch : List ℕ) (root page index : ℕ) : Type 0 where

@@ -10,6 +10,7 @@ use Rattle.blockfile.specs.Free.{draw}
 use Rattle.blockfile.specs.Put.{spanAt}
 use Rattle.blockfile.specs.Remove.{without, towersAt, unlinking}
 use Rattle.pages.specs.Places.{Inside}
+use Rattle.links.specs.Levels.{PathAt}
 use Rattle.edit.specs.declared.fields.Links.{Links}
 use Rattle.edit.specs.Fields.{ListOf, LinksOf}
 use Rattle.edit.specs.Cuts.{prevOn, countsAt}
@@ -56,33 +57,34 @@ unlinkWrites t k bs =
     ++ unlinking (without t (suc k)) (suc k) (towersAt t (suc k))
 
 -- with all that was read of it
-pub record GoingAt (img : List ℕ) (x : Going) (w : OwnTower) (r : KeyRule) (t : Table) (bs : List Block) (k : ℕ) : Type 0 where
+pub record GoingAt (img : List ℕ) (x : Going) (w : OwnTower) (path : List ℕ) (r : KeyRule) (t : Table) (bs : List Block) (k : ℕ) : Type 0 where
   pub gone : GoneAt img (x .root) (x .page) r t bs k
   pub list : ListOf t (x .list)
   pub links : LinksOf (hereAt t (suc k)) (x .links)
-  pub tower : TowerFor img t k w
+  pub tower : TowerFor img t k path w
 
-pub record GoingReady (img : List ℕ) (x : Going) (w : OwnTower) : Type 0 where
+pub record GoingReady (img : List ℕ) (x : Going) (w : OwnTower) (path : List ℕ) : Type 0 where
   pub rule : KeyRule
   pub table : Table
   pub blocks : List Block
   pub place : ℕ
-  pub is : GoingAt img x w rule table blocks place
+  pub is : GoingAt img x w path rule table blocks place
 
-pub record LetGo (img : List ℕ) (x : Going) (w : OwnTower) (out : List ℕ) : Type 0 where
-  pub image : (r : KeyRule) (t : Table) (bs : List Block) (k : ℕ) → GoingAt img x w r t bs k → out ≡ apply (unlinkWrites t k bs) img
+pub record LetGo (img : List ℕ) (x : Going) (w : OwnTower) (path out : List ℕ) : Type 0 where
+  pub image : (r : KeyRule) (t : Table) (bs : List Block) (k : ℕ) → GoingAt img x w path r t bs k → out ≡ apply (unlinkWrites t k bs) img
 
--- the links are what the page of the span at place k + 1 says
-pub record UnlinkOf (img : List ℕ) (root page : ℕ) (x : Links) (r : KeyRule) (t : Table) (bs : List Block) (k : ℕ) : Type 0 where
+-- the links are what the page of the span at place k + 1 says, and the path has the towers before it
+pub record UnlinkOf (img : List ℕ) (root page : ℕ) (x : Links) (path : List ℕ) (r : KeyRule) (t : Table) (bs : List Block) (k : ℕ) : Type 0 where
   pub gone : GoneAt img root page r t bs k
   pub links : LinksOf (hereAt t (suc k)) x
+  pub passed : PathAt t (suc k) path
 
-pub record UnlinkReady (img : List ℕ) (root page : ℕ) (x : Links) : Type 0 where
+pub record UnlinkReady (img : List ℕ) (root page : ℕ) (x : Links) (path : List ℕ) : Type 0 where
   pub rule : KeyRule
   pub table : Table
   pub blocks : List Block
   pub place : ℕ
-  pub is : UnlinkOf img root page x rule table blocks place
+  pub is : UnlinkOf img root page x path rule table blocks place
 
-pub record Unlinked (img : List ℕ) (root page : ℕ) (x : Links) (out : List ℕ) : Type 0 where
-  pub image : (r : KeyRule) (t : Table) (bs : List Block) (k : ℕ) → UnlinkOf img root page x r t bs k → out ≡ apply (unlinkWrites t k bs) img
+pub record Unlinked (img : List ℕ) (root page : ℕ) (x : Links) (path out : List ℕ) : Type 0 where
+  pub image : (r : KeyRule) (t : Table) (bs : List Block) (k : ℕ) → UnlinkOf img root page x path r t bs k → out ≡ apply (unlinkWrites t k bs) img

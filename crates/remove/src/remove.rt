@@ -2,12 +2,13 @@
 ghost use Rattle.remove.specs.Leaves.{LeaveReady, Left};
 ghost use Rattle.remove.specs.Removes.{Goes, RemoveReady, RemoveDone};
 use crate::unlink::unlink;
-use edit::apply::carry_out;
+use edit::apply::carry_flat;
 use edit::fields::Links;
 use edit::fields::read_links;
 use edit::plan::make_plan;
+use search::path::descend;
 use search::table::TableRef;
-use search::table::find_span;
+use search::table::find_from;
 use stage::change::Change;
 use stage::change::find_spot;
 
@@ -35,15 +36,18 @@ fn leave(image: &mut [u8], scratch: &mut [u8], root: usize, page: usize, index: 
     let none = [0u8; 0];
     let base = image.len() / 1024;
     let plan = make_plan(image, root, page, change, 0, 0, base);
-    carry_out(image, scratch, plan, change, &none, &none)
+    carry_flat(image, scratch, plan, change, &none, &none)
 }
 
-// Removes the key from the table. Answers whether it was there; else nothing changes. The scratch is as long as the image.
+// Removes the key from the table. Answers whether it was there; else nothing changes. The scratch is as long as the image. The path is
+// strictly below the key: a span that goes has that key alone, so the path has the towers before it, and the span where the key belongs is
+// found from any tower before.
 pub fn remove(image: &mut [u8], scratch: &mut [u8], table: TableRef, key: &[u8]) -> bool
     requires { ⌜ RemoveReady (now image) (now scratch) table (now key) ⌝ }
     ensures { λ r. ⌜ RemoveDone (now (image .entry)) table (now (key .entry)) r (now (image .exit)) ⌝ }
 {
-    let page = find_span(image, table, key);
+    let path = descend(image, table, key, true);
+    let page = find_from(image, table, path.pages[0], key);
     let sort = table.sort;
     let spot = find_spot(image, page, sort, key);
     if spot.there == 0 {
@@ -51,7 +55,8 @@ pub fn remove(image: &mut [u8], scratch: &mut [u8], table: TableRef, key: &[u8])
     }
     let links = read_links(image, page);
     if goes(links) {
-        unlink(image, table.root, page, links);
+        let pages = path.pages;
+        unlink(image, table.root, page, links, &pages);
     } else {
         leave(image, scratch, table.root, page, spot.index);
     }

@@ -44,30 +44,30 @@ fn lower_counts(image: &mut [u8], going: Going, tower: usize)
 }
 
 // Gives the pages back and writes the links around them.
-fn let_go(image: &mut [u8], going: Going, tower: OwnTower)
-    requires { ⌜ GoingReady (now image) going tower ⌝ }
-    ensures { λ _. ⌜ LetGo (now (image .entry)) going tower (now (image .exit)) ⌝ }
+fn let_go(image: &mut [u8], going: Going, tower: OwnTower, path: &[usize; 252])
+    requires { ⌜ GoingReady (now image) going tower (now path) ⌝ }
+    ensures { λ _. ⌜ LetGo (now (image .entry)) going tower (now (path .entry)) (now (image .exit)) ⌝ }
 {
-    let before = tower.before;
     let after = tower.after;
     give_gone(image, going.links.first, going.page, tower.page);
     link_spans(image, going.links.prev, going.links.next);
-    link_levels(image, &before, &after, tower.height);
+    link_levels(image, path, &after, tower.height);
     lower_counts(image, going, tower.page)
 }
 
-// Unlinks the span on `page` of the table with the skip-list page `root`, and gives it back; `links` is what its page says.
-pub fn unlink(image: &mut [u8], root: usize, page: usize, links: Links)
-    requires { ⌜ UnlinkReady (now image) root page links ⌝ }
-    ensures { λ _. ⌜ Unlinked (now (image .entry)) root page links (now (image .exit)) ⌝ }
+// Unlinks the span on `page` of the table with the skip-list page `root`, and gives it back; `links` is what its page says, and the path
+// has the towers before it.
+pub fn unlink(image: &mut [u8], root: usize, page: usize, links: Links, path: &[usize; 252])
+    requires { ⌜ UnlinkReady (now image) root page links (now path) ⌝ }
+    ensures { λ _. ⌜ Unlinked (now (image .entry)) root page links (now (path .entry)) (now (image .exit)) ⌝ }
 {
     let list = read_list(image, root);
-    let tower = find_tower(image, root, links.prev, page);
+    let tower = find_tower(image, path, page);
     let going = Going {
         root,
         page,
         list,
         links,
     };
-    let_go(image, going, tower)
+    let_go(image, going, tower, path)
 }

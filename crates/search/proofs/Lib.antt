@@ -3,5 +3,9 @@ pub mod Entries
 pub mod Seeks
 pub mod Tables
 pub mod Nexts
+pub mod Distinct
+pub mod Towers
+pub mod Walking
+pub mod Descents
 pub mod Readables
 pub mod Names

@@ -4,18 +4,21 @@ use native.Mathlib.Omega.{arith}
 use native.Mathlib.Decide.{decLt}
 use mathlib.Core.Path.{_≡_, refl, ap, sym, _∙_, subst}
 use mathlib.Core.Logic.{by-cases}
+use mathlib.Core.Bool.{not, false}
 use mathlib.Core.List.{List, [], _∷_, map}
 use mathlib.Core.Option.{Option, some}
 use lib.ListN.{length, drop, drop-of-length-le}
 use lib.Seq.{drop-cons}
 use lib.Dec.{T}
-use Rattle.blockfile.specs.Bytes.{pg, be32, firstOf}
+use Rattle.blockfile.specs.Bytes.{pg, be32, Every, gather, firstOf}
 use Rattle.blockfile.specs.Layout.{Entry, Span, columns, entriesOf}
 use Rattle.blockfile.specs.Order.{KeyRule, above}
-use Rattle.blockfile.specs.Put.{target, spanAt}
-use Rattle.blockfile.proofs.Every.{every-so}
-use Rattle.laws.proofs.Middle.{orThen}
+use Rattle.blockfile.specs.Put.{begins, target, spanAt}
+use Rattle.blockfile.proofs.Bools.{so}
+use Rattle.blockfile.proofs.Every.{every-left, every-right, every-so}
+use Rattle.laws.proofs.Middle.{AllOver, orThen}
 use Rattle.laws.proofs.Targets.{nextSpanKey, above-empty, least-key, above-at}
+use Rattle.laws.proofs.Paths.{last-behind}
 use Rattle.order.proofs.Sorts.{below-some}
 use Rattle.search.specs.declared.span.Sought.{Sought}
 use Rattle.search.specs.declared.span.Sought.the-variants.{Found, Missing}
@@ -23,18 +26,30 @@ use Rattle.search.specs.declared.table.TableRef.{TableRef}
 use Rattle.search.specs.Spans.{Sorts, SpanOn, EntryThere, Answered, AboveOn, KeyOf}
 use Rattle.search.specs.Tables.{Reading, ReadingBy, TargetIn}
 use Rattle.search.proofs.Seeks.{answer-none, answer-as}
-use Rattle.search.proofs.Tables.{spansHere, length-spans, ordered, only-first, reading-span, next-at, first-there, first-at, all-begin, none-later, place, at-target, said-target}
+use Rattle.search.proofs.Tables.{spansHere, length-spans, ordered, only-first, reading-span, next-at, first-there, first-at, place, at-target, said-target}
 
 -- the empty key is below every key that is allowed
 least-below : (r : KeyRule) → Sorts r → (j : List ℕ) → T (r .allowed j) → T (r .below [] j)
 least-below r w j h = subst T (sym (w .below [] j)) (below-some (w .sort) j (w .some j h))
+
+-- spans whose keys are all above the key do not begin at it or below it
+all-begin : (r : KeyRule) (k : List ℕ) (ss : List Span) → AllOver r k (gather (λ s. s .entries) ss) → Every (λ s. begins r k (s .entries) ≡ false) ss
+all-begin r k [] h = tt
+all-begin r k (s ∷ ss) h = (
+  go (s .entries) (every-left (λ (y : Entry). T (r .below k (y .key))) (s .entries) (gather (λ s. s .entries) ss) h),
+  all-begin r k ss (every-right (λ (y : Entry). T (r .below k (y .key))) (s .entries) (gather (λ s. s .entries) ss) h),
+)
+  where
+    go : (es : List Entry) → AllOver r k es → begins r k es ≡ false
+    go [] h = refl
+    go (e ∷ es) h = ap not (so (r .below k (e .key)) (h .0))
 
 module _ {img : List ℕ} {root : ℕ} (t : Reading img root) where
   -- so its target is the first span
   empty-first : target (t .rule) [] (t .table) ≡ 0
   unfolding target
   empty-first =
-      none-later (t .rule) [] 0 0 (spansHere t)
+      last-behind (t .rule) [] 0 0 (spansHere t)
       (all-begin (t .rule) [] (spansHere t)
       (every-so (λ (e : Entry). T (t .rule .allowed (e .key))) (λ e. least-below (t .rule) (t .readable .order) (e .key)) (entriesOf (t .table)) (t .readable .ok .keys)))
 

@@ -2,7 +2,7 @@
 use Prim.Native.Nat.{ℕ, _+_, _-_, _≤_}
 use native.Mathlib.Omega.{arith}
 use mathlib.Core.Path.{_≡_, refl, ap, sym, _∙_, subst}
-use mathlib.Core.Bool.{Bool, true, false, _||_}
+use mathlib.Core.Bool.{Bool, true, false, not, _||_}
 use mathlib.Core.List.{List, [], _∷_, _++_, append-assoc}
 use mathlib.Core.Option.{Option, none, some}
 use lib.ListN.{length}
@@ -297,7 +297,7 @@ module _ {img : List ℕ} {r : KeyRule} {k : List ℕ} {es : List Entry} {s : St
 pub key-of-is : {img : List ℕ} {at : Place} (g : Sizes) → Measured img at g → KeyOf img at (Found (g .after) (g .key))
 key-of-is g m = record { is = λ x. answer-found (x .first .key) refl (along-entry (x .along) g m .key) }
 
--- ---- begins_above
+-- ---- begins_past
 
 pub record First (es : List Entry) : Type 0 where
   pub first : Entry
@@ -308,13 +308,27 @@ first-of : (es : List Entry) → (length es ≡ 0 → ⊥) → First es
 first-of [] z = absurd (z refl)
 first-of (e ∷ es) z = record { first = e; more = es; is = refl }
 
-over-empty : (r : KeyRule) (k : List ℕ) (es : List Entry) → length es ≡ 0 → false ≡ over r k es
-over-empty r k [] z = refl
-over-empty r k (e ∷ es) z = absurd (omega arith)
+over-empty : (b : Bool) (r : KeyRule) (k : List ℕ) (es : List Entry) → length es ≡ 0 → false ≡ over b r k es
+over-empty b r k [] z = refl
+over-empty b r k (e ∷ es) z = absurd (omega arith)
+
+-- by the first key j: above the key, below it, or the key itself
+module _ (r : KeyRule) (o : Ordered r) (k : List ℕ) (e : Entry) (es : List Entry) where
+  over-greater : (b : Bool) → T (r .below k (e .key)) → true ≡ over b r k (e ∷ es)
+  over-greater true t = sym (ap not (under-not-over r o (e .key) k t))
+  over-greater false t = sym (ap (λ (v : Bool). not (not v)) (so (r .below k (e .key)) t))
+
+  over-less : (b : Bool) → T (r .below (e .key) k) → false ≡ over b r k (e ∷ es)
+  over-less true t = sym (ap not (so (r .below (e .key) k) t))
+  over-less false t = sym (ap (λ (v : Bool). not (not v)) (under-not-over r o k (e .key) t))
+
+  over-equal : (b : Bool) → e .key ≡ k → b ≡ over b r k (e ∷ es)
+  over-equal true q = sym (ap not (not-so (r .below (e .key) k) (λ t. o .irrefl k (subst (λ (i : List ℕ). T (r .below i k)) q t))))
+  over-equal false q = sym (ap (λ (v : Bool). not (not v)) (not-so (r .below k (e .key)) (λ t. o .irrefl k (subst (λ (i : List ℕ). T (r .below k i)) q t))))
 
 module _ {img : List ℕ} {page : ℕ} (x : SpanOn img page) where
-  pub begins-none : (k : List ℕ) (n : ℕ) → n ≡ be16 (pg img page) 18 → n ≡ 0 → false ≡ over (x .rule) k (x .linked .span .entries)
-  begins-none k n e z = over-empty (x .rule) k (x .linked .span .entries) (sym (span-size x) ∙ sym e ∙ z)
+  pub begins-none : (b : Bool) (k : List ℕ) (n : ℕ) → n ≡ be16 (pg img page) 18 → n ≡ 0 → false ≡ over b (x .rule) k (x .linked .span .entries)
+  begins-none b k n e z = over-empty b (x .rule) k (x .linked .span .entries) (sym (span-size x) ∙ sym e ∙ z)
 
   module _ (z : length (x .linked .span .entries) ≡ 0 → ⊥) where
     opening : First (x .linked .span .entries)
@@ -334,25 +348,26 @@ module _ {img : List ℕ} {page : ℕ} (x : SpanOn img page) where
     span-first = ap (above (x .rule) []) (opening .is)
 
     module _ (k : List ℕ) (g : Sizes) (m : Measured img (record { page = page; offset = 20 }) g) {sort : Sort} (by : x .there .order .sort ≡ sort) (a : Order)
-        (c : ComparedAs sort img (g .after) (g .key) k a) where
+        (c : ComparedAs sort img (g .after) (g .key) k a) (b : Bool) where
       abbrev j : List ℕ
       j = opening .first .key
+
+      abbrev ordered : Ordered (x .rule)
+      ordered = sorts-ordered (x .rule) (x .there .order)
 
       compared-first : a ≡ orderAs (x .there .order .sort) j k
       unfolding span-entry
       compared-first = c .is j (bytes-key (along-entry (span-entry .along) g m .key)) ∙ ap (λ (i : Sort). orderAs i j k) (sym by)
 
-      over-first : over (x .rule) k (x .linked .span .entries) ≡ x .rule .below k j
-      over-first = ap (over (x .rule) k) (opening .is)
+      from-first : (v : Bool) → v ≡ over b (x .rule) k (opening .first ∷ opening .more) → v ≡ over b (x .rule) k (x .linked .span .entries)
+      from-first v e = e ∙ ap (over b (x .rule) k) (sym (opening .is))
 
-      pub begins-greater : a ≡ Greater → true ≡ over (x .rule) k (x .linked .span .entries)
-      begins-greater e = sym (over-first ∙ so (x .rule .below k j) (greater-over (x .rule) (x .there .order) j k (sym compared-first ∙ e)))
+      pub begins-greater : a ≡ Greater → true ≡ over b (x .rule) k (x .linked .span .entries)
+      begins-greater e =
+          from-first true (over-greater (x .rule) ordered k (opening .first) (opening .more) b (greater-over (x .rule) (x .there .order) j k (sym compared-first ∙ e)))
 
-      pub begins-less : a ≡ Less → false ≡ over (x .rule) k (x .linked .span .entries)
-      begins-less e =
-          sym (over-first ∙ under-not-over (x .rule) (sorts-ordered (x .rule) (x .there .order)) k j (less-under (x .rule) (x .there .order) j k (sym compared-first ∙ e)))
+      pub begins-less : a ≡ Less → false ≡ over b (x .rule) k (x .linked .span .entries)
+      begins-less e = from-first false (over-less (x .rule) ordered k (opening .first) (opening .more) b (less-under (x .rule) (x .there .order) j k (sym compared-first ∙ e)))
 
-      pub begins-equal : a ≡ Equal → false ≡ over (x .rule) k (x .linked .span .entries)
-      begins-equal e =
-          let q : j ≡ k = equal-same (x .there .order .sort) j k (sym compared-first ∙ e) in
-          sym (over-first ∙ not-so (x .rule .below k j) (λ t. sorts-ordered (x .rule) (x .there .order) .irrefl k (subst (λ (i : List ℕ). T (x .rule .below k i)) q t)))
+      pub begins-equal : a ≡ Equal → b ≡ over b (x .rule) k (x .linked .span .entries)
+      begins-equal e = from-first b (over-equal (x .rule) ordered k (opening .first) (opening .more) b (equal-same (x .there .order .sort) j k (sym compared-first ∙ e)))

@@ -1,4 +1,4 @@
--- The ways through `find_span` and `find`: a table's spans in their order.
+-- A table's spans in their order, and the way through `find`.
 use Prim.Native.Nat.{ℕ, zero, suc, _+_, _-_, _≤_, _<_}
 use native.Mathlib.Omega.{arith}
 use mathlib.Core.Path.{_≡_, refl, ap, sym, _∙_, subst}
@@ -12,7 +12,8 @@ use Rattle.blockfile.specs.Layout.{Entry, Span, Table, columns, spansOf, entrie
 use Rattle.blockfile.specs.Order.{KeyRule, Rising, find, above}
 use Rattle.blockfile.specs.Fields.{LinkedSpan}
 use Rattle.blockfile.specs.WellFormed.{span, tower, linkSpans, spansIn, towersIn}
-use Rattle.blockfile.specs.Put.{begins, lastPlace, target, spanAt}
+use Rattle.blockfile.specs.Put.{target, spanAt}
+use Rattle.blockfile.specs.Path.{begun}
 use Rattle.blockfile.proofs.Bools.{holds, so}
 use Rattle.blockfile.proofs.Every.{every-left, every-right, every-so, every-unmap}
 use Rattle.laws.proofs.Orders.{Ordered}
@@ -129,113 +130,16 @@ module _ {img : List ℕ} {root : ℕ} (t : Reading img root) where
   only-first (suc i) l n =
       absurd (omega (arith, n, every-at (λ (s : Span). 1 ≤ length (s .entries)) i (t .table .first) (spansOf (t .table .rest)) (omega (arith, length-spans)) (t .readable .ok .filled)))
 
--- ---- Spans that begin above the key
+-- ---- Spans that begin past a bound or not
 
-module _ (r : KeyRule) (k : List ℕ) where
-  over-begins : (es : List Entry) → T (over r k es) → begins r k es ≡ false
-  over-begins [] h = refl
-  over-begins (e ∷ es) h = ap not (so (r .below k (e .key)) h)
+module _ (strict : Bool) (r : KeyRule) (k : List ℕ) where
+  pub begun-over : (es : List Entry) → begun strict r k es ≡ true → over strict r k es ≡ false
+  begun-over [] e = refl
+  begun-over (x ∷ es) e = ap not e
 
-  -- a span that is not above the key is the target so far: only at place 0 it may be empty
-  not-over : (es : List Entry) (i : ℕ) → over r k es ≡ false → (length es ≡ 0 → i ≡ 0) → cond (begins r k es) i (i - 1) ≡ i
-  not-over [] i h z = let e : i ≡ 0 = z refl in omega arith
-  not-over (e ∷ es) i h z = rw h
-
-  pub all-begin : (ss : List Span) → AllOver r k (gather (λ s. s .entries) ss) → Every (λ s. begins r k (s .entries) ≡ false) ss
-  all-begin [] h = tt
-  all-begin (s ∷ ss) h = (
-    go (s .entries) (every-left (λ (y : Entry). T (r .below k (y .key))) (s .entries) (gather (λ s. s .entries) ss) h),
-    all-begin ss (every-right (λ (y : Entry). T (r .below k (y .key))) (s .entries) (gather (λ s. s .entries) ss) h),
-  )
-    where
-      go : (es : List Entry) → AllOver r k es → begins r k es ≡ false
-      go [] h = refl
-      go (e ∷ es) h = over-begins (e ∷ es) (h .0)
-
-  pub none-later : (found i : ℕ) (ss : List Span) → Every (λ s. begins r k (s .entries) ≡ false) ss → lastPlace r k found i ss ≡ found
-  none-later found i [] h = refl
-  none-later found i (s ∷ ss) h = rw (h .0) (none-later found (suc i) ss (h .1))
-
-  all-over : Ordered r → (es fs : List Entry) → T (over r k es) → Rising r (es ++ fs) → AllOver r k (es ++ fs)
-  all-over o [] fs t h = absurd t
-  all-over o (e ∷ es) fs t h = (t, every-so (λ (y : Entry). T (r .below (e .key) (y .key))) (λ y. o .trans k (e .key) (y .key) t) (es ++ fs) (h .0))
-
--- ---- find_span: the spans from the place on are left
-
-pub record Walking {img : List ℕ} {root : ℕ} (t : Reading img root) (k : List ℕ) (page left found : ℕ) : Type 0 where
-  pub place : ℕ
-  pub count : place + left ≡ length (columns (t .table))
-  pub here : page ≡ firstOf (map (λ s. s .page) (drop place (spansOf (columns (t .table)))))
-  pub last : found ≡ spanAt (t .table) (place - 1) .page
-  pub rest : target (t .rule) k (t .table) ≡ lastPlace (t .rule) k (place - 1) place (drop place (spansOf (columns (t .table))))
-
-pub walking-start : {img : List ℕ} {root : ℕ} (k : List ℕ) (page left : ℕ) → page ≡ be32 (pg img root) 8 → left ≡ be32 (pg img root) 20 → (t : Reading img root)
-    → Walking t k page left page
-unfolding target spanAt
-walking-start k page left e f t =
-    record { place = 0; count = omega (arith, f, reading-spans t); here = e ∙ reading-first t; last = e ∙ reading-first t; rest = refl }
-
-module _ {img : List ℕ} {root : ℕ} {t : Reading img root} {k : List ℕ} {page left found : ℕ} (w : Walking t k page left found) where
-  pub walking-end : left ≡ 0 → found ≡ spanAt (t .table) (target (t .rule) k (t .table)) .page
-  walking-end z =
-      let none : drop (w .place) (spansHere t) ≡ [] = drop-of-length-le (spansHere t) {i = w .place} (omega (arith, w .count, length-spans t)) in
-      let is : target (t .rule) k (t .table) ≡ w .place - 1 = rw none at (w .rest) in
-      w .last ∙ ap (λ (i : ℕ). spanAt (t .table) i .page) (sym is)
-
-  module _ (z : left ≡ 0 → ⊥) where
-    within : w .place < length (columns (t .table))
-    within = omega (arith, w .count, z)
-
-    first-here : drop (w .place) (spansHere t) ≡ spanAt (t .table) (w .place) ∷ drop (suc (w .place)) (spansHere t)
-    unfolding spanAt
-    first-here = drop-cons (spansHere t) (w .place) (t .table .first) (omega (arith, within, length-spans t))
-
-    page-here : page ≡ spanAt (t .table) (w .place) .page
-    page-here = w .here ∙ ap (λ (ss : List Span). firstOf (map (λ s. s .page) ss)) first-here
-
-    pub walking-span : {s : Sort} → t .readable .order .sort ≡ s → SpanBy img page s
-    walking-span = reading-by t (w .place) within page page-here
-
-    rest-here : target (t .rule) k (t .table)
-        ≡ lastPlace (t .rule) k (cond (begins (t .rule) k (spanAt (t .table) (w .place) .entries)) (w .place) (w .place - 1)) (suc (w .place)) (drop (suc (w .place)) (spansHere t))
-    rest-here = rw first-here at (w .rest)
-
-    rising-here : Rising (t .rule) (spanAt (t .table) (w .place) .entries ++ gather (λ s. s .entries) (drop (suc (w .place)) (spansHere t)))
-    rising-here =
-        let ss : List Span = spansHere t in
-        subst (λ (l : List Span). Rising (t .rule) (gather (λ s. s .entries) l)) first-here
-        (rising-right (t .rule) (gather (λ s. s .entries) (take (w .place) ss)) (gather (λ s. s .entries) (drop (w .place) ss))
-        (subst (Rising (t .rule)) (ap (gather (λ s. s .entries)) (sym (take-append-drop (w .place) ss)) ∙ gather-append (λ s. s .entries) (take (w .place) ss) (drop (w .place) ss))
-        (t .readable .ok .rising)))
-
-    module _ {s : Sort} (by : t .readable .order .sort ≡ s) (b : Bool) (o : OverOn img page s k b) where
-      over-here : b ≡ over (t .rule) k (spanAt (t .table) (w .place) .entries)
-      over-here = said-at t (w .place) within page page-here by (λ r es. b ≡ over r k es) (o .is)
-
-      pub walking-stop : b ≡ true → found ≡ spanAt (t .table) (target (t .rule) k (t .table)) .page
-      walking-stop e =
-          let es : List Entry = spanAt (t .table) (w .place) .entries in
-          let v : T (over (t .rule) k es) = holds (over (t .rule) k es) (sym over-here ∙ e) in
-          let left : List Span = spanAt (t .table) (w .place) ∷ drop (suc (w .place)) (spansHere t) in
-          let later : Every (λ s. begins (t .rule) k (s .entries) ≡ false) left
-          = all-begin (t .rule) k left
-          (all-over (t .rule) k (ordered t) es (gather (λ s. s .entries) (drop (suc (w .place)) (spansHere t))) v rising-here) in
-          let is : target (t .rule) k (t .table) ≡ w .place - 1
-          = w .rest ∙ ap (lastPlace (t .rule) k (w .place - 1) (w .place)) first-here ∙ none-later (t .rule) k (w .place - 1) (w .place) left later in
-          w .last ∙ ap (λ (i : ℕ). spanAt (t .table) i .page) (sym is)
-
-      pub walking-next : b ≡ false → (next : ℕ) → next ≡ be32 (pg img page) 12 → Walking t k next (left - 1) page
-      walking-next e next f =
-          let es : List Entry = spanAt (t .table) (w .place) .entries in
-          let here : cond (begins (t .rule) k es) (w .place) (w .place - 1) ≡ w .place = not-over (t .rule) k es (w .place) (sym over-here ∙ e) (only-first t (w .place) within) in
-          let back : suc (w .place) - 1 ≡ w .place = omega arith in
-          record {
-            place = suc (w .place);
-            count = omega (arith, w .count, z);
-            here = f ∙ next-at t (w .place) within page page-here;
-            last = rw back page-here;
-            rest = rw back (rest-here ∙ ap (λ (n : ℕ). lastPlace (t .rule) k n (suc (w .place)) (drop (suc (w .place)) (spansHere t))) here);
-          }
+  pub later-over : (es : List Entry) → (length es ≡ 0 → ⊥) → begun strict r k es ≡ false → over strict r k es ≡ true
+  later-over [] z e = absurd (z refl)
+  later-over (x ∷ es) z e = ap not e
 
 -- ---- find: in the target span
 

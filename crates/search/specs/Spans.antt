@@ -1,7 +1,7 @@
 -- A span's entries as the code reads them: from place to place, in step with the list.
 use Prim.Native.Nat.{ℕ, _+_, _*_, _≤_, _<_}
 use mathlib.Core.Path.{_≡_}
-use mathlib.Core.Bool.{Bool, false}
+use mathlib.Core.Bool.{Bool, false, not}
 use mathlib.Core.List.{List, [], _∷_, _++_}
 use mathlib.Core.Option.{Option, none, some}
 use lib.ListN.{length, take, drop}
@@ -11,11 +11,13 @@ use Rattle.blockfile.specs.Layout.{Entry, entriesEnd, reached}
 use Rattle.blockfile.specs.Order.{KeyRule, Rising, find, above}
 use Rattle.blockfile.specs.Fields.{LinkedSpan, EntriesAt}
 use Rattle.blockfile.specs.WellFormed.{Piece, span, pagesOf, Bears}
+use Rattle.blockfile.specs.Path.{begun}
 use Rattle.order.specs.declared.sort.Sort.{Sort}
 use Rattle.order.specs.Sorts.{ruleAs}
 use Rattle.entries.specs.declared.place.Place.{Place}
 use Rattle.entries.specs.declared.place.Sizes.{Sizes}
 use Rattle.entries.specs.Places.{IsPage, Rest, Enough, Moved}
+use Rattle.search.specs.declared.span.Bound.{Bound}
 use Rattle.search.specs.declared.span.Sought.{Sought}
 use Rattle.search.specs.declared.span.Sought.the-variants.{Found, Missing}
 use Rattle.search.specs.declared.span.Stop.{Stop}
@@ -136,10 +138,10 @@ pub record Stopped (img : List ℕ) (r : KeyRule) (k : List ℕ) (es : List Entr
   pub passed : (g : Sizes) (left : ℕ) → s ≡ Above g left → Passed img r k es g left
   pub end : s ≡ End → Ended r k es
 
--- the entries begin above the key
-abbrev pub over : KeyRule → (key : List ℕ) → List Entry → Bool
-over r k [] = false
-over r k (e ∷ es) = r .below k (e .key)
+-- there are entries, and they do not begin so
+abbrev pub over : (strict : Bool) → KeyRule → (key : List ℕ) → List Entry → Bool
+over strict r k [] = false
+over strict r k (e ∷ es) = not (begun strict r k (e ∷ es))
 
 -- ---- What the functions on a span answer, for every span that is on the page and sorts so
 
@@ -152,8 +154,8 @@ pub record FoundOn (img : List ℕ) (page : ℕ) (s : Sort) (k : List ℕ) (r : 
 pub record AboveOn (img : List ℕ) (page : ℕ) (s : Sort) (k : List ℕ) (r : Sought) : Type 0 where
   pub is : (x : SpanBy img page s) → Answered img (above (x .on .rule) k (x .on .linked .span .entries)) r
 
-pub record OverOn (img : List ℕ) (page : ℕ) (s : Sort) (k : List ℕ) (r : Bool) : Type 0 where
-  pub is : (x : SpanBy img page s) → r ≡ over (x .on .rule) k (x .on .linked .span .entries)
+pub record OverOn (img : List ℕ) (page : ℕ) (b : Bound) (k : List ℕ) (r : Bool) : Type 0 where
+  pub is : (x : SpanBy img page (b .sort)) → r ≡ over (b .strict) (x .on .rule) k (x .on .linked .span .entries)
 
 -- the key of the entry at the place
 pub record KeyOf (img : List ℕ) (at : Place) (r : Sought) : Type 0 where

@@ -4,7 +4,7 @@ use crate::span::Sought;
 use crate::span::key_above;
 use crate::span::key_of;
 use crate::table::TableRef;
-use crate::table::find_span;
+use crate::table::find_by_towers;
 use entries::place::Place;
 use pages::read::get32;
 
@@ -13,7 +13,7 @@ pub fn next_key(image: &[u8], table: TableRef, key: &[u8]) -> Sought
     requires { ⌜ ReadingBy (now image) table ⌝ }
     ensures { λ r. ⌜ AboveIn (now (image .entry)) table (now (key .entry)) r ⌝ }
 {
-    let page = find_span(image, table, key);
+    let page = find_by_towers(image, table, key);
     let sort = table.sort;
     let here = key_above(image, page, sort, key);
     if let Sought::Found(_, _) = here {

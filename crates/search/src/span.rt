@@ -103,20 +103,27 @@ pub fn key_above(image: &[u8], page: usize, sort: Sort, key: &[u8]) -> Sought
     }
 }
 
-// Whether the span on the page begins above the key. An empty span does not.
-pub fn begins_above(image: &[u8], page: usize, sort: Sort, key: &[u8]) -> bool
-    requires { ⌜ SpanBy (now image) page sort ⌝ }
-    ensures { λ r. ⌜ OverOn (now (image .entry)) page sort (now (key .entry)) r ⌝ }
+// How far a search goes along the spans of a table: to the last that begins at the key or below it; strictly, below it.
+pub struct Bound {
+    pub sort: Sort,
+    pub strict: bool,
+}
+
+// Whether the span on the page begins past the bound. An empty span does not.
+pub fn begins_past(image: &[u8], page: usize, bound: Bound, key: &[u8]) -> bool
+    requires { ⌜ SpanBy (now image) page (bound .sort) ⌝ }
+    ensures { λ r. ⌜ OverOn (now (image .entry)) page bound (now (key .entry)) r ⌝ }
 {
     if get16(image, page, 18) == 0 {
         return false;
     }
     let g = lengths(image, Place { page, offset: 20 });
     let first = g.after;
+    let sort = bound.sort;
     let order = compare_as(image, first, g.key, sort, key);
     match order {
         Order::Greater => true,
         Order::Less => false,
-        Order::Equal => false,
+        Order::Equal => bound.strict,
     }
 }

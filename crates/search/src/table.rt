@@ -1,8 +1,13 @@
 // Tables: the span where a key belongs, the value under a key, and a table by its name.
 ghost use Rattle.blockfile.specs.WellFormed.{Accepted};
 ghost use Rattle.search.specs.Tables.{ReadingBy, TargetIn, FoundIn, NamedAs};
+ghost use Rattle.search.specs.Paths.{LowestIn, startOn};
+ghost use mathlib.Core.Path.{_≡_};
+ghost use Rattle.pages.specs.Places.{Inside};
+use crate::path::descend;
+use crate::span::Bound;
 use crate::span::Sought;
-use crate::span::begins_above;
+use crate::span::begins_past;
 use crate::span::find_entry;
 use entries::copy::number;
 use order::sort::Sort;
@@ -23,26 +28,56 @@ pub enum Named {
     Unknown,
 }
 
-// The page of the span where the key belongs: the last that does not begin above it. Only the first span may be empty, so
-// the search goes on behind it.
-pub fn find_span(image: &[u8], table: TableRef, key: &[u8]) -> usize
-    requires { ⌜ ReadingBy (now image) table ⌝ }
+// The span of the lowest tower of a path; the first span for a path without levels, where `lowest` is 0.
+fn start(image: &[u8], root: usize, lowest: usize) -> usize
+    requires { ⌜ Inside (now image) root 8 4 × ((lowest ≡ 0 → ⊥) → Inside (now image) lowest 12 4) ⌝ }
+    ensures { λ r. ⌜ r ≡ startOn (now (image .entry)) root lowest ⌝ }
+{
+    if lowest == 0 {
+        return get32(image, root, 8);
+    }
+    get32(image, lowest, 12)
+}
+
+// The page of the span where the key belongs, by a path to the key: along the spans from that of its lowest tower, as long as the next one
+// begins at the key or below it.
+pub fn find_from(image: &[u8], table: TableRef, lowest: usize, key: &[u8]) -> usize
+    requires { ⌜ ReadingBy (now image) table × LowestIn (now image) table (now key) lowest ⌝ }
     ensures { λ r. ⌜ TargetIn (now (image .entry)) table (now (key .entry)) r ⌝ }
 {
     let root = table.root;
     let sort = table.sort;
-    let mut page = get32(image, root, 8);
-    let mut left = get32(image, root, 20);
-    let mut found = page;
-    while left != 0 {
-        if begins_above(image, page, sort, key) {
-            return found;
+    let bound = Bound {
+        sort,
+        strict: false,
+    };
+    let mut page = start(image, root, lowest);
+    let mut next = get32(image, page, 12);
+    while next != 0 {
+        if begins_past(image, next, bound, key) {
+            return page;
         }
-        found = page;
-        page = get32(image, page, 12);
-        left -= 1;
+        page = next;
+        next = get32(image, page, 12);
     }
-    found
+    page
+}
+
+// The same by the plain search, along all spans. The calls search by the towers; the program `searches` compares both.
+pub fn find_span(image: &[u8], table: TableRef, key: &[u8]) -> usize
+    requires { ⌜ ReadingBy (now image) table ⌝ }
+    ensures { λ r. ⌜ TargetIn (now (image .entry)) table (now (key .entry)) r ⌝ }
+{
+    find_from(image, table, 0, key)
+}
+
+// The same by the towers.
+pub fn find_by_towers(image: &[u8], table: TableRef, key: &[u8]) -> usize
+    requires { ⌜ ReadingBy (now image) table ⌝ }
+    ensures { λ r. ⌜ TargetIn (now (image .entry)) table (now (key .entry)) r ⌝ }
+{
+    let path = descend(image, table, key, false);
+    find_from(image, table, path.pages[0], key)
 }
 
 // The value under the key in the table.
@@ -50,7 +85,7 @@ pub fn find(image: &[u8], table: TableRef, key: &[u8]) -> Sought
     requires { ⌜ ReadingBy (now image) table ⌝ }
     ensures { λ r. ⌜ FoundIn (now (image .entry)) table (now (key .entry)) r ⌝ }
 {
-    let page = find_span(image, table, key);
+    let page = find_by_towers(image, table, key);
     let sort = table.sort;
     find_entry(image, page, sort, key)
 }

@@ -33,6 +33,8 @@ pub enum Filling {
     Serials(usize),
     /// Spans of two small entries, with the towers that puts make.
     SmallSpans,
+    /// The same with spans of two keys at most, all of them full.
+    ManySpans,
     /// Spans of one small entry, with the towers that puts make.
     SingleKeys,
     /// Values of 65,535 bytes.
@@ -51,7 +53,7 @@ pub enum Filling {
 
 impl Filling {
     /// All fillings.
-    pub const ALL: [Filling; 18] = [
+    pub const ALL: [Filling; 19] = [
         Filling::ManySmall,
         Filling::FullSpans,
         Filling::ManyTiny,
@@ -63,6 +65,7 @@ impl Filling {
         Filling::Serials(64),
         Filling::Serials(200),
         Filling::SmallSpans,
+        Filling::ManySpans,
         Filling::SingleKeys,
         Filling::FewLarge,
         Filling::LongKeys,
@@ -82,6 +85,7 @@ impl Filling {
             Filling::Offsets => "offset table",
             Filling::Serials(length) => return format!("serial numbers of {length} bytes"),
             Filling::SmallSpans => "small spans",
+            Filling::ManySpans => "one table of many spans",
             Filling::SingleKeys => "spans of one key",
             Filling::FewLarge => "few large entries",
             Filling::LongKeys => "long keys",
@@ -129,6 +133,7 @@ impl Filling {
             Filling::FullSpans => (126, 126),
             Filling::ManyTiny => (128, 128),
             Filling::SmallSpans => (4, 2),
+            Filling::ManySpans => (2, 2),
             Filling::SingleKeys => (4, 1),
             Filling::FewLarge | Filling::LongKeys => (4, 3),
             Filling::Towers => (2, 1),

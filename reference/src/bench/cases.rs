@@ -61,7 +61,8 @@ fn case(call: &'static str, image_name: String, image: Vec<u8>, request: Call) -
     }
 }
 
-/// The other calls, on images with some free pages and on full ones, beside check alone.
+/// The other calls, on images with some free pages and on full ones, beside check alone. A table has many
+/// spans only at the largest size.
 pub fn call_cases() -> Vec<Case> {
     let mut cases = Vec::new();
     for pages in SIZES.into_iter().skip(1) {
@@ -69,6 +70,7 @@ pub fn call_cases() -> Vec<Case> {
             cases.extend(cases_on(filling, pages, free, calls));
         }
     }
+    cases.extend(cases_on(Filling::ManySpans, 4096, 80, many_span_calls));
     cases
 }
 
@@ -226,10 +228,30 @@ fn split_calls(table: &Table) -> Vec<(&'static str, Call)> {
 }
 
 fn small_span_calls(table: &Table) -> Vec<(&'static str, Call)> {
-    let key = cards::small_key(table.keys() / 2);
+    let half = table.keys() / 2;
+    let key = cards::small_key(half);
     vec![
         ("check", Call::Check),
+        ("get, key of a small span", get(NAME, key.clone())),
+        ("next, key of a small span", next(NAME, key.clone())),
+        ("put, new key of a small span", put(NAME, missing(half), 4)),
         ("remove, key of a small span", remove(NAME, key)),
+    ]
+}
+
+/// Calls four spans before the end of the table, far from its first span.
+fn many_span_calls(table: &Table) -> Vec<(&'static str, Call)> {
+    let near_end = table.keys() - 8;
+    let key = cards::small_key(near_end);
+    vec![
+        ("check", Call::Check),
+        ("get, key near the end", get(NAME, key.clone())),
+        ("next, key near the end", next(NAME, key.clone())),
+        (
+            "put, new key near the end, split",
+            put(NAME, missing(near_end), 4),
+        ),
+        ("remove, key near the end", remove(NAME, key)),
     ]
 }
 
@@ -281,14 +303,22 @@ fn crowded_calls(_: &Table) -> Vec<(&'static str, Call)> {
     ]
 }
 
+/// Calls on spans of one key, each with a tower of all levels: in the second span, the first with such a
+/// tower, in the middle, and at the end.
 fn tower_calls(table: &Table) -> Vec<(&'static str, Call)> {
     let keys = table.keys();
     let last = keys - 1;
     let key = cards::small_key;
     vec![
         ("check", Call::Check),
+        ("get second key", get(NAME, key(1))),
         ("get last key", get(NAME, key(last))),
+        ("next of the second key", next(NAME, key(1))),
+        ("next, key near the end", next(NAME, key(last - 1))),
+        ("put, new key near the beginning", put(NAME, missing(1), 4)),
         ("put, new key, no split", put(NAME, missing(keys / 2), 4)),
+        ("put, new key at the end", put(NAME, missing(last), 4)),
+        ("remove, second span unlinked", remove(NAME, key(1))),
         ("remove, span unlinked", remove(NAME, key(last / 2))),
         ("remove, last span unlinked", remove(NAME, key(last))),
     ]

@@ -8,6 +8,7 @@ use crate::layout::{Span, Table};
 use crate::reached::{self, held, Made};
 use crate::request::{Call, CallKind};
 use crate::sort::{number, Sort};
+use crate::towers::links;
 
 /// The cases that are not made of a kind of call, a name, a number or a length.
 const FIXED: [&str; 40] = [
@@ -81,6 +82,8 @@ pub fn all() -> Vec<String> {
     }
     all.extend(Filling::ALL.map(filled));
     all.extend([1, 2, 3, 5].map(ordinary));
+    all.extend(links::all_new(Sort::Numbers));
+    all.extend(links::all_unlinked(Sort::Numbers));
     all
 }
 
@@ -375,6 +378,7 @@ fn of_split(old: &Table, new: &Table, place: usize) -> Vec<String> {
         ("split, with a new tower", upper.tower.is_some()),
     ]);
     cases.push(format!("split of a span of {}", old.span_size));
+    cases.extend(links::of_new(Sort::Numbers, old, new, place + 1));
     cases
 }
 
@@ -385,7 +389,7 @@ fn of_remove(old: &Table, new: &Table, key: &[u8]) -> Vec<String> {
     let is_unlinked = new.spans.len() < old.spans.len();
     let has_tower = old.spans[target].tower.is_some();
     let is_first_empty = target == 0 && new.spans[0].entries.is_empty();
-    held(&[
+    let mut cases = held(&[
         ("remove of a negative key", number < 0),
         ("remove of a positive key", number >= 0),
         ("span unlinked, with a tower", is_unlinked && has_tower),
@@ -399,7 +403,11 @@ fn of_remove(old: &Table, new: &Table, key: &[u8]) -> Vec<String> {
             "target by bytes would be another span",
             target != old.target(Sort::Bytes, key),
         ),
-    ])
+    ]);
+    if is_unlinked {
+        cases.extend(links::of_unlinked(Sort::Numbers, old, target));
+    }
+    cases
 }
 
 /// A call on a table whose name has a "#" only behind its first byte.

@@ -63,7 +63,8 @@ fn any_image(random: &mut Random) -> Sample {
         0..=3 => return putting::spans_of_128(random),
         4..=23 => return full_spans(random),
         24..=25 => Knobs::many_small(),
-        26..=40 => Knobs::towers_long(),
+        26..=33 => Knobs::towers_long(),
+        34..=40 => Knobs::odd_towers(),
         41..=70 => emptying::page_ends(),
         71..=80 => Knobs::tiny_long(),
         _ => Knobs::tiny(),
@@ -75,7 +76,7 @@ fn any_image(random: &mut Random) -> Sample {
 fn full_spans(random: &mut Random) -> Sample {
     let spans = random.within(1..=9);
     let size = *random.pick(&[2, 3]);
-    let max = *random.pick(&[1, 12, MAX_NUMBERS]);
+    let max = *random.pick(&[1, 12, MAX_NUMBERS, MAX_NUMBERS]);
     let free = random.within(0..=6);
     generate::full_spans(random, spans, size, max, free)
 }

@@ -5,10 +5,9 @@ use mathlib.Core.Path.{_≡_, _∙_}
 use lib.ListN.{length}
 use Rattle.links.specs.Levels.{Filled}
 use Rattle.links.proofs.Fills.{fill-none, fill-more}
-use Rattle.links.proofs.Standing.{head-tall}
-use Rattle.links.proofs.Passing.{head-inside}
-use Rattle.links.proofs.Behind.{entryOf, head-height, level-inside, after-is}
+use Rattle.links.proofs.Behind.{entryOf, level-inside, after-is}
 use Rattle.search.proofs.Tables.{reading-inside}
+use Rattle.search.proofs.Towers.{head-tall, head-inside, head-height}
 use Rattle.links.proofs.around.towers_after.Statement.{statement}
 use Rattle.links.proofs.around.towers_after.Tie as tie
 
@@ -37,7 +36,7 @@ get32-requires-2 : tie.Need-get32-requires-2 Inv-loop μ-loop
 get32-requires-2 c κs =
     let h = c .before .before .before .before .before in
     let p = h .before .before .before .pre .0 in
-    level-inside (p .reading) (p .place) (p .before) _ (omega (arith, head-read h, c .before .loop-test .taken))
+    level-inside (p .reading) (p .place) (p .before) _ (omega (arith, c .before .before .loop .inv)) (omega (arith, head-read h, c .before .loop-test .taken))
 
 loop-again : tie.Need-loop-again Inv-loop μ-loop
 loop-again c =

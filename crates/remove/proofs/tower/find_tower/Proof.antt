@@ -1,63 +1,37 @@
 -- `remove::tower::find_tower` meets its contract.
-use Prim.Native.Nat.{ℕ, suc}
+use Prim.Native.Nat.{ℕ}
+use native.Mathlib.Omega.{arith}
+use borrow.Author.Needs.{needs}
 use lib.ListN.{length-replicate}
-use Rattle.remove.proofs.Owning.{arrived, before-behind, height-inside, tower-for}
+use Rattle.remove.proofs.Owning.{own-inside, own-low, tower-none, tower-some}
 use Rattle.remove.proofs.tower.find_tower.Statement.{statement}
 use Rattle.remove.proofs.tower.find_tower.Tie as tie
 
-towers-before-requires : tie.Need-towers-before-requires
-towers-before-requires c κs = let f = c .before .before .pre in (record { reading = f .reading; place = f .place; at = f .at .before }, length-replicate {A = ℕ} 252 0)
+returns : tie.Need-returns
+returns c = record { is = λ root t k a. tower-none t k a (c .before .tower-of .ensures) (c .if1 .taken) }
 
-pass-span-requires : tie.Need-pass-span-requires
-pass-span-requires c κs =
-    let b = c .before in
-    let f = b .before .before .before .pre in
-    record { root = _; reading = f .reading; place = suc (f .place); arrived = arrived (f .reading) (f .place) (f .at) (b .towers-before .ensures .0) (b .towers-before .ensures .1) }
+get16-requires : tie.Need-get16-requires
+get16-requires c κs =
+    let o = c .before in
+    let p = o .before .before .pre in
+    own-inside (p .reading) (p .place) (p .is) (o .tower-of .ensures) (c .if1 .left) _ _ (omega arith)
 
-towers-after-requires : tie.Need-towers-after-requires
-towers-after-requires c κs =
-    let p = c .before .before in
-    let b = p .before .before in
-    let f = b .before .before .before .pre in (
-      record {
-        reading = f .reading;
-        place = suc (f .place);
-        before = before-behind (f .reading) (f .place) (f .at) (b .towers-before .ensures .0) (b .towers-before .ensures .1) (p .pass-span .ensures);
-      },
+get-entries-requires : tie.Need-get-entries-requires
+get-entries-requires c κs =
+    let h = c .before in
+    let e = h .before in
+    let o = e .before in
+    let p = o .before .before .pre in (
+      own-inside (p .reading) (p .place) (p .is) (o .tower-of .ensures) (e .if1 .left) _ _ (omega arith),
+      own-low (p .reading) (p .place) (p .is) (o .tower-of .ensures) (e .if1 .left) (h .get16 .ensures .is),
       length-replicate {A = ℕ} 252 0,
     )
 
-tower-of-requires : tie.Need-tower-of-requires
-tower-of-requires c κs =
-    let p = c .before .before .before .before in
-    let b = p .before .before in
-    let f = b .before .before .before .pre in
-    record {
-      root = _;
-      reading = f .reading;
-      place = suc (f .place);
-      at = f .at .here;
-      before = before-behind (f .reading) (f .place) (f .at) (b .towers-before .ensures .0) (b .towers-before .ensures .1) (p .pass-span .ensures);
-    }
-
-height-of-requires : tie.Need-height-of-requires
-height-of-requires c κs =
-    let p = c .before .before .before .before .before in
-    let b = p .before .before in
-    let f = b .before .before .before .pre in
-    height-inside (f .reading) (f .place) (f .at) (b .towers-before .ensures .0) (b .towers-before .ensures .1) (p .pass-span .ensures) (c .tower-of .ensures)
-
-returns : tie.Need-returns
-returns c =
-    let o = c .before in
-    let a = o .before .before in
-    let p = a .before .before .before in
-    let b = p .before .before in
-    record {
-      is = λ t k f.
-          tower-for t k f (b .towers-before .ensures .0) (b .towers-before .ensures .1) (p .pass-span .ensures) (o .tower-of .ensures) (c .height-of .ensures) (a .towers-after .ensures);
-    }
+returns-2 : tie.Need-returns-2
+returns-2 c =
+    let h = c .before .before in
+    let e = h .before in
+    record { is = λ root t k a. tower-some t k a (e .before .tower-of .ensures) (e .if1 .left) (h .get16 .ensures .is) (length-replicate {A = ℕ} 252 0) (c .get-entries .ensures) }
 
 pub find-tower-spec : {M : Type 1} → statement M
-find-tower-spec =
-    tie.close (tie.spec towers-before-requires pass-span-requires towers-after-requires tower-of-requires height-of-requires returns)
+find-tower-spec = tie.close (tie.spec (λ c κs. search needs) returns get16-requires get-entries-requires returns-2)

@@ -1,5 +1,5 @@
 -- `remove::unlink::unlink` meets its contract.
-use Rattle.remove.proofs.Unlinkings.{table-read, follows, going-at, unlinked}
+use Rattle.remove.proofs.Unlinkings.{table-read, precedes, going-at, unlinked}
 use borrow.Author.Needs.{needs}
 use Rattle.remove.proofs.unlink.unlink.Statement.{statement}
 use Rattle.remove.proofs.unlink.unlink.Tie as tie
@@ -8,7 +8,7 @@ read-list-requires : tie.Need-read-list-requires
 read-list-requires c κs = table-read (c .before .before .pre .is)
 
 find-tower-requires : tie.Need-find-tower-requires
-find-tower-requires c κs = follows (c .before .before .before .before .pre .is)
+find-tower-requires c κs = precedes (c .before .before .before .before .pre .is)
 
 let-go-requires : tie.Need-let-go-requires
 let-go-requires c κs =

@@ -5,10 +5,10 @@ use Rattle.search.proofs.table.find.Statement.{statement}
 use Rattle.search.proofs.table.find.Tie as tie
 
 find-entry-requires : tie.Need-find-entry-requires
-find-entry-requires c κs = target-span (c .before .before .before .pre) _ _ (c .find-span .ensures)
+find-entry-requires c κs = target-span (c .before .before .before .pre) _ _ (c .find-by-towers .ensures)
 
 returns : tie.Need-returns
-returns c = record { is = λ t. find-in t _ _ (c .before .find-span .ensures) _ (c .find-entry .ensures) }
+returns c = record { is = λ t. find-in t _ _ (c .before .find-by-towers .ensures) _ (c .find-entry .ensures) }
 
 pub find-spec : {M : Type 1} → statement M
 find-spec =

@@ -47,7 +47,7 @@ module _ {img : List ℕ} {root : ℕ} (t : Reading img root) where
   next-page i l =
       next-link i (omega arith) ∙ ap (λ (ss : List Span). firstOf (map (λ s. s .page) ss)) (drop-cons (spansHere t) (suc i) (t .table .first) (omega (arith, length-spans t)))
 
-  last-page : (i : ℕ) → suc i ≡ places → be32 (pg img (pageAt i)) 12 ≡ 0
+  pub last-page : (i : ℕ) → suc i ≡ places → be32 (pg img (pageAt i)) 12 ≡ 0
   last-page i e =
       next-link i (omega arith)
       ∙ ap (λ (ss : List Span). firstOf (map (λ s. s .page) ss)) (drop-of-length-le (spansHere t) {i = suc i} (omega (arith, length-spans t)))

@@ -1,4 +1,4 @@
--- `search::span::begins_above` meets its contract.
+-- `search::span::begins_past` meets its contract.
 use native.Mathlib.Omega.{arith}
 use mathlib.Core.Path.{_≡_, _∙_}
 use borrow.Author.Needs.{needs}
@@ -6,14 +6,14 @@ use lib.ListN.{length}
 use Rattle.search.specs.Spans.{SpanOn}
 use Rattle.search.proofs.Entries.{along-enough, along-entry, entry-key}
 use Rattle.search.proofs.Seeks.{span-inside, span-size, span-entry, begins-none, begins-greater, begins-less, begins-equal}
-use Rattle.search.proofs.span.begins_above.Statement.{statement}
-use Rattle.search.proofs.span.begins_above.Tie as tie
+use Rattle.search.proofs.span.begins_past.Statement.{statement}
+use Rattle.search.proofs.span.begins_past.Tie as tie
 
 get16-requires : tie.Need-get16-requires
 get16-requires c κs = span-inside (c .before .before .pre .on) _ _ (omega arith)
 
 returns : tie.Need-returns
-returns c = record { is = λ x. begins-none (x .on) _ _ (c .before .get16 .ensures .is) (c .if1 .taken) }
+returns c = record { is = λ x. begins-none (x .on) _ _ _ (c .before .get16 .ensures .is) (c .if1 .taken) }
 
 -- a span whose size is not 0 has an entry
 some : (c : tie.Else1) → (x : SpanOn (c .before .before .before .before .args .image .now) (c .before .before .before .before .args .page))
@@ -33,25 +33,25 @@ returns-2 : tie.Need-returns-2
 returns-2 c = record {
   is = λ x.
       let m = c .before .before in
-      begins-greater (x .on) (some (m .before .before .before) (x .on)) _ _ (m .before .before .lengths .ensures) (x .by) _ (m .compare-as .ensures) (c .enum-told .given .1);
+      begins-greater (x .on) (some (m .before .before .before) (x .on)) _ _ (m .before .before .lengths .ensures) (x .by) _ (m .compare-as .ensures) _ (c .enum-told .given .1);
 }
 
 returns-3 : tie.Need-returns-3
 returns-3 c = record {
   is = λ x.
       let m = c .before .before in
-      begins-less (x .on) (some (m .before .before .before) (x .on)) _ _ (m .before .before .lengths .ensures) (x .by) _ (m .compare-as .ensures) (c .enum-told2 .given .1);
+      begins-less (x .on) (some (m .before .before .before) (x .on)) _ _ (m .before .before .lengths .ensures) (x .by) _ (m .compare-as .ensures) _ (c .enum-told2 .given .1);
 }
 
 returns-4 : tie.Need-returns-4
 returns-4 c = record {
   is = λ x.
       let m = c .before .before in
-      begins-equal (x .on) (some (m .before .before .before) (x .on)) _ _ (m .before .before .lengths .ensures) (x .by) _ (m .compare-as .ensures) (c .enum-told3 .given .1);
+      begins-equal (x .on) (some (m .before .before .before) (x .on)) _ _ (m .before .before .lengths .ensures) (x .by) _ (m .compare-as .ensures) _ (c .enum-told3 .given .1);
 }
 
-pub begins-above-spec : {M : Type 1} → statement M
-begins-above-spec =
+pub begins-past-spec : {M : Type 1} → statement M
+begins-past-spec =
     tie.close
     (tie.spec
     get16-requires
