@@ -22,7 +22,7 @@ const USAGE: &str = "usage:
   reference compare P SEED N    N images, lists of calls, pairs of keys against P, twin or library
   reference bench               times of the twin and the library, in Markdown
   reference samples DIR         the sample cards with the program's lines
-  reference theorems SEED N     N images with a call each, as theorems of the trusted text";
+  reference theorems SEED N     N images with a call and a search each, as theorems of the text";
 
 fn main() -> ExitCode {
     let arguments: Vec<String> = env::args().skip(1).collect();

@@ -26,6 +26,9 @@ const LENS: &[u8] = b"lens";
 /// The table of frame offsets.
 const SYNC: &[u8] = b"#sync";
 
+/// As many pages as the program reads.
+const MOST_PAGES: u32 = (program::MOST / PAGE) as u32;
+
 /// The span size of created tables.
 const SPAN_SIZE: u16 = 4;
 
@@ -44,6 +47,7 @@ pub fn samples() -> Vec<Sample> {
         sample("full", full(), "pages 16 tables 1 keys 22 free 0"),
         sample("offsets", offsets(), "pages 16 tables 1 keys 12 free 4"),
         sample("offsets-by-bytes", offsets_by_bytes(), "refused 3"),
+        sample("towers", towers(), "pages 32 tables 2 keys 26 free 2"),
         sample("empty-file", Vec::new(), "refused 1"),
         sample("ring-of-spans", ring_of_spans(&cameras), "refused 3"),
         sample("cut-in-a-page", cameras[..20_000].to_vec(), "refused 1"),
@@ -108,15 +112,19 @@ fn lens(pages: u32) -> Vec<u8> {
 /// A blank card with a table of this name.
 fn with_table(pages: u32, name: &[u8]) -> Vec<u8> {
     let mut image = blank(pages);
-    let mut scratch = vec![0; image.len()];
-    let answer = calls::create(&mut image, &mut scratch, name);
-    assert_eq!(answer.number, 0, "there is room for a table");
+    create(&mut image, name);
     image
+}
+
+fn create(image: &mut [u8], name: &[u8]) {
+    let mut scratch = vec![0; image.len()];
+    let answer = calls::create(image, &mut scratch, name);
+    assert_eq!(answer.number, 0, "there is room for a table");
 }
 
 /// A table "lens" with the records of thirty cameras, on as many pages as the program reads.
 fn cameras() -> Vec<u8> {
-    let mut image = lens((program::MOST / PAGE) as u32);
+    let mut image = lens(MOST_PAGES);
     for camera in 1..=30 {
         assert_eq!(put(&mut image, camera), 0, "there is room for a camera");
     }
@@ -133,8 +141,16 @@ fn full() -> Vec<u8> {
 /// Puts the record of a camera; gives the answer's number.
 fn put(image: &mut [u8], camera: u32) -> u32 {
     let mut scratch = vec![0; image.len()];
-    let key = format!("cam{camera:02}").into_bytes();
-    calls::put(image, &mut scratch, LENS, &key, &record(camera)).number
+    let Entry { key, value } = calibration(camera);
+    calls::put(image, &mut scratch, LENS, &key, &value).number
+}
+
+/// The entry of a camera in the table "lens".
+fn calibration(camera: u32) -> Entry {
+    Entry {
+        key: format!("cam{camera:02}").into_bytes(),
+        value: record(camera),
+    }
 }
 
 /// A table "#sync" with the frame offsets of twelve cameras: the first is the farthest behind.
@@ -142,12 +158,19 @@ fn offsets() -> Vec<u8> {
     let mut image = with_table(16, SYNC);
     let mut scratch = vec![0; image.len()];
     for camera in 1..=12 {
-        let key = numbers::key(5 * camera - 30);
-        let value = format!("camera {camera:02}").into_bytes();
+        let Entry { key, value } = offset(camera);
         let answer = calls::put(&mut image, &mut scratch, SYNC, &key, &value);
         assert_eq!(answer.number, 0, "there is room for an offset");
     }
     image
+}
+
+/// The entry of a camera in the table "#sync".
+fn offset(camera: u32) -> Entry {
+    Entry {
+        key: numbers::key(5 * camera as i32 - 30),
+        value: format!("camera {camera:02}").into_bytes(),
+    }
 }
 
 /// The same table with its entries, which all have one length, in the order of their keys' bytes.
@@ -163,6 +186,48 @@ fn offsets_by_bytes() -> Vec<u8> {
     }
     encode::layout(&mut image, &layout);
     image
+}
+
+/// Towers as no put makes them. The head of "lens" has as many levels as a tower can have; that of
+/// "#sync" has more than any tower after it, and its first span is empty though others follow.
+fn towers() -> Vec<u8> {
+    let mut image = with_table(MOST_PAGES, SYNC);
+    create(&mut image, LENS);
+    let mut layout = check(&image).expect("well-formed");
+    let unused = &mut layout.free[0].listed;
+    let [(_, sync), (_, lens)] = layout.tables.as_mut_slice() else {
+        panic!("two tables");
+    };
+    lens.spans[0].entries = [1, 2].map(calibration).into();
+    for (place, height) in [1, 3, 0, 252, 0, 1].into_iter().enumerate() {
+        let camera = 2 * place as u32 + 3;
+        let entries = [camera, camera + 1].map(calibration).into();
+        lens.spans.push(column(entries, height, unused));
+    }
+    for (place, height) in [1, 0, 3, 150, 0, 2].into_iter().enumerate() {
+        let camera = 2 * place as u32 + 1;
+        let entries = [camera, camera + 1].map(offset).into();
+        sync.spans.push(column(entries, height, unused));
+    }
+    (lens.head.max, lens.head.height) = (252, 252);
+    (sync.head.max, sync.head.height) = (252, 200);
+    encode::layout(&mut image, &layout);
+    image
+}
+
+/// A span with these entries, which fit on its page, and a tower of this height, or none for 0.
+fn column(entries: Vec<Entry>, height: u16, unused: &mut Vec<u32>) -> Span {
+    let mut take = || unused.pop().expect("a page for every use");
+    Span {
+        page: take(),
+        continuations: Vec::new(),
+        entries,
+        tower: (height > 0).then(|| Tower {
+            page: take(),
+            max: height,
+            height,
+        }),
+    }
 }
 
 /// A small calibration record: focal lengths and centre, none, two or four numbers of a model,

@@ -1,6 +1,6 @@
-//! Random images and calls as theorems of the trusted text.
+//! Random images, calls and searches by towers as theorems of the trusted text.
 //!
-//! What this program makes of a call stands on one side of each theorem, the definitions of
+//! What this program makes of a call or a search stands on one side of each theorem, the definitions of
 //! `crates/blockfile/specs` on the other; the checker computes whether they agree.
 
 use crate::check;
@@ -13,7 +13,9 @@ use crate::page::PAGE;
 use crate::random::Random;
 use crate::request::{Call, Request};
 use crate::sort::Sort;
-use std::fmt::Write;
+use crate::towers::agree::{beside, Searched};
+use crate::towers::{self, Bound, Sought};
+use std::fmt::{Display, Write};
 
 /// The module's `use` lines and the definitions that the theorems need.
 const HEAD: &str = include_str!("theorems-head.txt");
@@ -27,57 +29,76 @@ freeMark";
 /// The definitions that the checker opens to read an image.
 const IMAGE: &str = "be16 be32 be64 word32 reached lensAt entryEnd nameRule keyRule superMark skipMark towerMark spanMark contMark blockMark freeMark";
 
+/// The definitions that the checker opens to compute a path.
+const PATH: &str = "path passed nameRule keyRule";
+
+/// The definitions that the checker opens to compute the place at which a search ends.
+const SEARCH: &str = "byTowers nameRule keyRule";
+
+/// No longer key is searched for: the text compares it with those of a table anew at every level.
+const LONGEST_SOUGHT: usize = 16;
+
 /// How often the image has no page free and the call is a remove of a key that is there.
 const FULL_EVERY: u64 = 4;
 
-/// How often the image has to have an offset table with keys; others may have one too.
+/// How often the image has to have an offset table with keys, which is searched; others may have one
+/// too.
 const OFFSETS_EVERY: u64 = 3;
 
-/// A module of theorems on `count` images with a call each.
+/// After so many images the kinds of keys that are searched for come again. In three of them the table
+/// that is searched has towers.
+const TURNS: u64 = 5;
+
+/// How many towers it has then at least, the head not counted.
+const TOWERS: usize = 2;
+
+/// A module of theorems on `count` images with a call and a search each.
 pub fn module(seed: u64, count: u64) -> String {
     let mut random = Random::new(seed);
     let mut text = HEAD.to_owned();
     for number in 1..=count {
-        let is_full = number % FULL_EVERY == 0;
-        let (image, layout) = match number % OFFSETS_EVERY {
-            0 => with_offsets(&mut random, is_full),
-            _ => sample(&mut random, is_full),
-        };
-        let call = if is_full {
-            remove(&mut random, &layout)
-        } else {
-            call(&mut random, &layout)
+        let layout = layout(&mut random, number);
+        let image = image(&mut random, &layout);
+        let call = match number % FULL_EVERY {
+            0 => remove(&mut random, &layout),
+            _ => call(&mut random, &layout),
         };
         let room = *random.pick(&[0, 1, 2, 4, 5000, 5000]);
         claims(&mut text, number, &image, &layout, call, room);
+        let search = search(&mut random, number, &layout);
+        search_claims(&mut text, number, &search);
     }
     text
 }
 
-/// An image as `sample` makes it that has an offset table with keys.
-fn with_offsets(random: &mut Random, is_full: bool) -> (Vec<u8>, Layout) {
-    loop {
-        let (image, layout) = sample(random, is_full);
-        let has_keys = |(sort, table): (Sort, &Table)| sort == Sort::Numbers && table.keys() > 0;
-        if layout.sorted_tables().any(has_keys) {
-            return (image, layout);
-        }
+/// What is searched in an image.
+fn wanted(number: u64) -> Searched {
+    match number % OFFSETS_EVERY {
+        0 => Searched::Offsets,
+        1 => Searched::Metaindex,
+        _ => Searched::Ordinary,
     }
 }
 
-/// A small image, with no page free or any number of them, whose unused bytes and values are the
-/// same within a page or value, so that they take few words to write down.
-fn sample(random: &mut Random, is_full: bool) -> (Vec<u8>, Layout) {
-    let knobs = Knobs {
-        pages: 10..=30,
-        tables: 1..=2,
-        spans: 1..=4,
-        ..Knobs::tiny()
+/// A small layout, with no page free or any number of them, that has the table to search. The bytes of a
+/// value are the same, so that they take few words to write down.
+fn layout(random: &mut Random, number: u64) -> Layout {
+    let (knobs, towers) = match number % TURNS {
+        0..=2 => (with_towers(), TOWERS),
+        _ => (with_long_entries(), 0),
     };
-    let mut layout = if is_full {
-        generate::full_layout(random, &knobs)
-    } else {
-        generate::layout(random, &knobs)
+    let is_wanted = |(searched, table): (Searched, &Table)| {
+        let has_keys = searched == Searched::Metaindex || table.keys() > 0;
+        searched == wanted(number) && table.levels() > towers && has_keys
+    };
+    let mut layout = loop {
+        let layout = match number % FULL_EVERY {
+            0 => generate::full_layout(random, &knobs),
+            _ => generate::layout(random, &knobs),
+        };
+        if Searched::tables(&layout).any(is_wanted) {
+            break layout;
+        }
     };
     for (_, table) in &mut layout.tables {
         for span in &mut table.spans {
@@ -86,12 +107,37 @@ fn sample(random: &mut Random, is_full: bool) -> (Vec<u8>, Layout) {
             }
         }
     }
+    layout
+}
+
+/// Few tables and spans, with entries over several pages.
+fn with_long_entries() -> Knobs {
+    Knobs {
+        pages: 10..=30,
+        tables: 1..=2,
+        spans: 1..=4,
+        ..Knobs::tiny()
+    }
+}
+
+/// More tables and spans, most of them with a tower.
+fn with_towers() -> Knobs {
+    Knobs {
+        pages: 10..=20,
+        tables: 1..=3,
+        spans: 2..=6,
+        ..Knobs::full_of_towers()
+    }
+}
+
+/// The image of a layout, whose unused bytes are the same within a page.
+fn image(random: &mut Random, layout: &Layout) -> Vec<u8> {
     let mut image = Vec::new();
     for _ in 0..layout.pages {
         image.extend(vec![random.below(256) as u8; PAGE]);
     }
-    encode::layout(&mut image, &layout);
-    (image, layout)
+    encode::layout(&mut image, layout);
+    image
 }
 
 /// A call, mostly one that changes the image.
@@ -221,7 +267,7 @@ fn claims(text: &mut String, number: u64, image: &[u8], layout: &Layout, call: C
     theorem(
         text,
         &format!("handed{number}"),
-        &format!("{outcome} .bytes ≡ {}", bytes_text(handed)),
+        &format!("{outcome} .bytes ≡ {}", row_text(handed)),
         &opened,
         "refl",
     );
@@ -257,7 +303,7 @@ fn claims(text: &mut String, number: u64, image: &[u8], layout: &Layout, call: C
     for (place, (name, table)) in layout.tables.iter().enumerate() {
         let statement = format!(
             "TableOk (keyRule ({})) ({})",
-            bytes_text(name),
+            row_text(name),
             table_text(table)
         );
         theorem(
@@ -268,6 +314,96 @@ fn claims(text: &mut String, number: u64, image: &[u8], layout: &Layout, call: C
             &rules_text(table),
         );
     }
+}
+
+/// A key to search for in a table.
+struct Search<'a> {
+    sort: Sort,
+    table: &'a Table,
+    key: Vec<u8>,
+    /// The rule of the table's keys, and the table, in the text's notation.
+    rule: String,
+    term: String,
+}
+
+/// A search in the table with the most towers of those that are searched in this image.
+fn search<'a>(random: &mut Random, number: u64, layout: &'a Layout) -> Search<'a> {
+    let tables = Searched::tables(layout).enumerate();
+    let of_kind = tables.filter(|(_, (searched, _))| *searched == wanted(number));
+    let found = of_kind.max_by_key(|(_, (_, table))| table.levels());
+    let (place, (searched, table)) = found.expect("the image has such a table");
+    let (rule, term) = match place.checked_sub(1) {
+        None => ("nameRule".to_owned(), format!("(L{number} .meta)")),
+        Some(place) => (
+            format!("(keyRule {})", row_text(&layout.tables[place].0)),
+            format!("(tableAt L{number} {place})"),
+        ),
+    };
+    Search {
+        sort: searched.sort(),
+        table,
+        key: sought(random, number, searched, table),
+        rule,
+        term,
+    }
+}
+
+/// A key that is there, one beside it, or the smallest that may be there, which mostly is below all.
+fn sought(random: &mut Random, number: u64, searched: Searched, table: &Table) -> Vec<u8> {
+    let [smallest, _] = searched.ends();
+    let Some(key) = short_key(random, table) else {
+        return smallest;
+    };
+    let mut near = beside(key).to_vec();
+    near.retain(|key| searched.allows(key));
+    match number % TURNS {
+        0 => smallest,
+        1 | 3 => key.to_vec(),
+        _ => random.pick(&near).clone(),
+    }
+}
+
+/// A key of the table that is not long; more often one that a span with a tower begins with.
+fn short_key<'a>(random: &mut Random, table: &'a Table) -> Option<&'a [u8]> {
+    let is_short = |entry: &&Entry| entry.key.len() < LONGEST_SOUGHT;
+    let towered = table.spans.iter().filter(|span| span.tower.is_some());
+    let firsts = towered.filter_map(|span| span.entries.first());
+    let firsts: Vec<&Entry> = firsts.filter(is_short).collect();
+    let all: Vec<&Entry> = table.entries().filter(is_short).collect();
+    let keys = match !firsts.is_empty() && random.percent(60) {
+        true => firsts,
+        false => all,
+    };
+    (!keys.is_empty()).then(|| random.pick(&keys).key.as_slice())
+}
+
+/// The theorems on a search: the towers that it passes with either bound, and the place where it ends.
+fn search_claims(text: &mut String, number: u64, search: &Search) {
+    let Search { sort, table, .. } = *search;
+    let key = &search.key;
+    let terms = format!("{} {}", search.rule, row_text(key));
+    for (name, begins, bound) in [
+        ("path", "begins", Bound::AtOrBelow),
+        ("pathBelow", "beginsBelow", Bound::Below),
+    ] {
+        let path = towers::path(table, &Sought { sort, key, bound });
+        let passed = row_text(&path.passed[..path.height]);
+        theorem(
+            text,
+            &format!("{name}{number}"),
+            &format!("path ({begins} {terms}) {} ≡ {passed}", search.term),
+            &format!("L{number} {PATH}"),
+            "refl",
+        );
+    }
+    let place = table.target(sort, key);
+    theorem(
+        text,
+        &format!("byTowers{number}"),
+        &format!("byTowers {terms} {} ≡ {place}", search.term),
+        &format!("L{number} {SEARCH}"),
+        "refl",
+    );
 }
 
 fn define(text: &mut String, name: &str, kind: &str, value: &str) {
@@ -285,16 +421,16 @@ fn theorem(text: &mut String, name: &str, statement: &str, opened: &str, proof: 
 fn operation(call: &Call) -> String {
     match call {
         Call::Check => "check".to_owned(),
-        Call::Get { name, key } => format!("get {} {}", bytes_text(name), bytes_text(key)),
-        Call::Next { name, key } => format!("next {} {}", bytes_text(name), bytes_text(key)),
-        Call::Remove { name, key } => format!("remove {} {}", bytes_text(name), bytes_text(key)),
-        Call::Create { name } => format!("create {}", bytes_text(name)),
+        Call::Get { name, key } => format!("get {} {}", row_text(name), row_text(key)),
+        Call::Next { name, key } => format!("next {} {}", row_text(name), row_text(key)),
+        Call::Remove { name, key } => format!("remove {} {}", row_text(name), row_text(key)),
+        Call::Create { name } => format!("create {}", row_text(name)),
         Call::Put { name, key, value } => {
             format!(
                 "put {} {} {}",
-                bytes_text(name),
-                bytes_text(key),
-                bytes_text(value)
+                row_text(name),
+                row_text(key),
+                row_text(value)
             )
         }
     }
@@ -314,19 +450,19 @@ fn numbers(items: &[u32]) -> String {
     list(items, u32::to_string)
 }
 
-/// Bytes, with runs of the same byte said once.
-fn bytes_text(bytes: &[u8]) -> String {
+/// Bytes or page numbers, with runs of the same one said once.
+fn row_text<T: Copy + PartialEq + Display>(row: &[T]) -> String {
     const RUN: usize = 6;
     let mut parts = Vec::new();
-    let mut single: Vec<u8> = Vec::new();
-    let mut rest = bytes;
+    let mut single: Vec<T> = Vec::new();
+    let mut rest = row;
     while let Some(&first) = rest.first() {
-        let run = rest.iter().take_while(|&&byte| byte == first).count();
+        let run = rest.iter().take_while(|&&one| one == first).count();
         if run < RUN {
             single.extend(&rest[..run]);
         } else {
             if !single.is_empty() {
-                parts.push(list(&single, u8::to_string));
+                parts.push(list(&single, T::to_string));
                 single.clear();
             }
             parts.push(format!("replicate {run} {first}"));
@@ -334,7 +470,7 @@ fn bytes_text(bytes: &[u8]) -> String {
         rest = &rest[run..];
     }
     if !single.is_empty() || parts.is_empty() {
-        parts.push(list(&single, u8::to_string));
+        parts.push(list(&single, T::to_string));
     }
     let last = parts.pop().expect("there is a part");
     let joined = parts
@@ -346,14 +482,14 @@ fn bytes_text(bytes: &[u8]) -> String {
 
 fn pages_text(image: &[u8]) -> String {
     let pages: Vec<&[u8]> = image.chunks(PAGE).collect();
-    list(&pages, |page| bytes_text(page))
+    list(&pages, |page| row_text(page))
 }
 
 fn layout_text(layout: &Layout) -> String {
     let tables = list(&layout.tables, |(name, table)| {
         format!(
             "record {{ key = {}; value = {} }}",
-            bytes_text(name),
+            row_text(name),
             table_text(table)
         )
     });
@@ -394,8 +530,8 @@ fn span_text(span: &Span) -> String {
     let entries = list(&span.entries, |entry: &Entry| {
         format!(
             "record {{ key = {}; value = {} }}",
-            bytes_text(&entry.key),
-            bytes_text(&entry.value)
+            row_text(&entry.key),
+            row_text(&entry.value)
         )
     });
     format!(

@@ -5,6 +5,7 @@ use reference::check::check;
 use reference::program::line;
 use reference::rule::Rule;
 use reference::samples::samples;
+use reference::towers::agree;
 use std::fs;
 use std::path::Path;
 
@@ -69,6 +70,27 @@ fn offsets_in_byte_order_break_the_order_alone() {
     let broken = check(&card("offsets-by-bytes")).expect_err("refused");
     let rules: Vec<Rule> = broken.iter().map(|one| one.rule).collect();
     assert_eq!(rules, [Rule::OffsetsRising]);
+}
+
+/// The searches agree on the card, and it has what the searches are to be tried on.
+#[test]
+fn towers_are_such_as_no_put_makes() {
+    let card = card("towers");
+    let layout = check(&card).expect("well-formed");
+    let reached = agree::on_image(&card, &layout).expect("no difference");
+    for case in [
+        "Ordinary: head's current 252",
+        "Ordinary: 252 levels, several towers passed",
+        "Ordinary: a tower passed at every level",
+        "Ordinary: walk from a tower over other spans",
+        "Offsets: head higher than every tower",
+        "Offsets: the head passed at some levels, a tower at others",
+        "Offsets: several towers passed",
+        "Offsets: key in an empty first span, others follow",
+        "Offsets: walk from a tower over other spans",
+    ] {
+        assert!(reached.contains_key(case), "{case}");
+    }
 }
 
 #[test]

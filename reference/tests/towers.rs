@@ -4,6 +4,7 @@ use reference::compare::tally::cases_table;
 use reference::generate::{self, Knobs};
 use reference::layout::{Table, Tower};
 use reference::random::Random;
+use reference::theorems;
 use reference::towers::agree::{self, Searched};
 use std::collections::{BTreeMap, BTreeSet};
 
@@ -92,5 +93,41 @@ fn towers_of_every_height_are_made() {
         for (what, count) in made.seen {
             assert!(count > 20, "{searched:?}, {what}: {count}");
         }
+    }
+}
+
+/// Theorems have searches in the metaindex and in tables of both orders, some with a tower passed at the
+/// key that is not passed below it.
+#[test]
+fn theorems_on_searches() {
+    let text = theorems::module(1, 300);
+    let statements = text.lines().filter_map(|line| line.split_once(" ≡ "));
+    let statements: Vec<(&str, &str)> = statements.collect();
+    let of = |what: &str, searched: Searched| -> Vec<&str> {
+        let claims = statements.iter().filter(|(left, _)| left.contains(what));
+        let claims = claims.filter(|(left, _)| searched_by(left) == searched);
+        claims.map(|(_, right)| *right).collect()
+    };
+    for searched in Searched::ALL {
+        let paths = of(" : path (begins ", searched);
+        let below = of(" : path (beginsBelow ", searched);
+        let places = of(" : byTowers ", searched);
+        assert_eq!([paths.len(), below.len(), places.len()], [100; 3]);
+        let differ = paths.iter().zip(&below).filter(|(one, other)| one != other);
+        let differ = differ.count();
+        assert!(differ >= 10, "{searched:?}, paths differ: {differ}");
+        let later = places.iter().filter(|place| **place != "0").count();
+        assert!(later >= 20, "{searched:?}, later spans: {later}");
+    }
+}
+
+/// What the left side of a theorem searches, by its rule.
+fn searched_by(left: &str) -> Searched {
+    if left.contains("nameRule") {
+        Searched::Metaindex
+    } else if left.contains(&format!("(keyRule (({} ∷", b'#')) {
+        Searched::Offsets
+    } else {
+        Searched::Ordinary
     }
 }

@@ -26,7 +26,7 @@ fn enter(
     free: usize,
     change: Change,
     name: &[u8],
-    path: &[usize; 252],
+    path: &[u32; 252],
 ) -> bool
     requires { ⌜ EnterReady (now image) (now scratch) page free change (now name) (now path) ⌝ }
     ensures { λ r. ⌜ Entered (now (image .entry)) page free change (now (name .entry)) (now (path .entry)) r (now (image .exit)) ⌝ }
@@ -57,7 +57,7 @@ pub fn create(image: &mut [u8], scratch: &mut [u8], free: usize, name: &[u8]) ->
         sort: Sort::Bytes,
     };
     let path = descend(image, names, name, false);
-    let page = find_from(image, names, path.pages[0], name);
+    let page = find_from(image, names, path.pages[0] as usize, name);
     let spot = find_spot(image, page, Sort::Bytes, name);
     let change = Change {
         index: spot.index,

@@ -23,7 +23,8 @@ use Rattle.laws.proofs.TableWrites.{shared-tower}
 use Rattle.entries.specs.Places.{IsPage}
 use Rattle.draw.specs.Writing.{PageOf}
 use Rattle.search.specs.Tables.{Reading}
-use Rattle.links.specs.Levels.{Filled, Before, PathAt, orHead, HasBefore, AfterIn}
+use Rattle.search.specs.Paths.{Filled}
+use Rattle.links.specs.Levels.{Before, PathAt, orHead, HasBefore, AfterIn}
 use Rattle.links.proofs.Leading.{before-all}
 use Rattle.links.proofs.Relinked.{before-less, before-linkable}
 use Rattle.edit.specs.declared.plan.Plan.{Plan}

@@ -1,9 +1,9 @@
 -- A new tower written: the ways through `link_tower` and `write_tower`.
-use Prim.Native.Nat.{ℕ, _+_, _*_, _≤_, _<_}
+use Prim.Native.Nat.{ℕ, zero, suc, _+_, _*_, _≤_, _<_}
 use native.Mathlib.Omega.{arith}
-use mathlib.Core.Path.{_≡_, ap, sym, _∙_}
+use mathlib.Core.Path.{_≡_, refl, ap, sym, _∙_}
 use mathlib.Core.List.{List, [], _∷_, _++_}
-use lib.ListN.{length, getD}
+use lib.ListN.{length, getD, replicate}
 use borrow.Author.Tests.{lt-ltb, le-ltb}
 use Rattle.blockfile.specs.Bytes.{Write, on, word16, word32, write, apply}
 use Rattle.blockfile.specs.Encode.{wholeTower}
@@ -11,16 +11,20 @@ use Rattle.laws.proofs.Writes.{apply-append}
 use Rattle.laws.proofs.TowerLinks.{map-from}
 use Rattle.entries.specs.Places.{IsPage}
 use Rattle.links.specs.Links.{linkWrites, Linkable, levelsBelow, towerAs}
-use Rattle.links.specs.Levels.{Filled}
 use Rattle.edit.specs.declared.tower.NewTower.{NewTower}
 use Rattle.edit.specs.Cuts.{linksOn, towerWrites}
 use Rattle.edit.specs.Towers.{riseOf}
 
 -- the links with one page at each level
-pub links-on : {levels values : List ℕ} {n h : ℕ} (before : List ℕ) → Filled levels h (λ _. n) values → linkWrites before values h ≡ linksOn before n h
-links-on {levels} {values} {n} {h} before f =
-    map-from (λ l. on (getD before l 0) (16 + 4 * l) (word32 (getD values l 0))) (λ l. on (getD before l 0) (16 + 4 * l) (word32 n)) 0 h
-    (λ l a b. ap (λ (v : ℕ). on (getD before l 0) (16 + 4 * l) (word32 v)) (f .below l (omega arith)))
+pub links-on : (before : List ℕ) (n h : ℕ) → h ≤ 252 → linkWrites before (replicate 252 n) h ≡ linksOn before n h
+links-on before n h few =
+    map-from (λ l. on (getD before l 0) (16 + 4 * l) (word32 (getD (replicate 252 n) l 0))) (λ l. on (getD before l 0) (16 + 4 * l) (word32 n)) 0 h
+    (λ l a b. ap (λ (v : ℕ). on (getD before l 0) (16 + 4 * l) (word32 v)) (same-at 252 l (omega arith)))
+  where
+    same-at : (m l : ℕ) → l < m → getD (replicate m n) l 0 ≡ n
+    same-at zero l h = absurd (omega arith)
+    same-at (suc m) zero h = refl
+    same-at (suc m) (suc l) h = same-at m l (omega arith)
 
 -- pages of an image are pages of another one of the same length
 pub page-of : {img : List ℕ} {n : ℕ} (out : List ℕ) → length out ≡ length img → IsPage img n → IsPage out n

@@ -23,7 +23,7 @@ pub fn put(
     ensures { λ r. ⌜ PutDone (now (image .entry)) table free (now (key .entry)) (now (value .entry)) r (now (image .exit)) ⌝ }
 {
     let path = descend(image, table, key, false);
-    let page = find_from(image, table, path.pages[0], key);
+    let page = find_from(image, table, path.pages[0] as usize, key);
     let sort = table.sort;
     let spot = find_spot(image, page, sort, key);
     let change = Change {

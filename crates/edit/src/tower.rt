@@ -5,7 +5,6 @@ ghost use Rattle.blockfile.specs.Bytes.{apply};
 ghost use Rattle.links.specs.Links.{Linkable};
 ghost use Rattle.edit.specs.Cuts.{linksOn, towerWrites};
 ghost use Rattle.edit.specs.Towers.{riseOf, TowerReady};
-use links::around::fill;
 use links::write::link_levels;
 use links::write::put_tower;
 use pages::write::put16;
@@ -25,8 +24,7 @@ fn link_tower(image: &mut [u8], before: &[usize; 252], height: usize, page: usiz
     requires { ⌜ Linkable (now image) (now before) height ⌝ }
     ensures { λ _. ⌜ now (image .exit) ≡ apply (linksOn (now (before .entry)) page height) (now (image .entry)) ⌝ }
 {
-    let mut values = [0usize; 252];
-    fill(&mut values, height, page);
+    let values = [page; 252];
     link_levels(image, before, &values, height)
 }
 

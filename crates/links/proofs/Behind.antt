@@ -4,16 +4,18 @@ use native.Mathlib.Omega.{arith}
 use native.Mathlib.Decide.{decLt}
 use mathlib.Core.Path.{_≡_, ap, sym, _∙_, subst}
 use mathlib.Core.Logic.{by-cases}
-use mathlib.Core.List.{List, _++_}
-use lib.ListN.{length, getD, take, drop, take-append-drop}
+use mathlib.Core.List.{List, [], _++_}
+use lib.ListN.{length, getD, take, drop, replicate, take-append-drop, length-replicate}
 use Rattle.blockfile.specs.Bytes.{pg, be32}
 use Rattle.blockfile.specs.Layout.{Column, towersOf}
 use Rattle.blockfile.specs.WellFormed.{nextAt}
 use Rattle.pages.specs.Places.{Inside}
 use Rattle.entries.specs.Places.{IsPage}
 use Rattle.search.specs.Tables.{Reading}
-use Rattle.links.specs.Levels.{Filled, Before, After}
+use Rattle.search.specs.Paths.{Filled}
+use Rattle.links.specs.Levels.{Before, After}
 use Rattle.search.proofs.Towers.{AllBorne, last-first, entry-here, towers-from, head-tall, above-head, head-borne}
+use Rattle.search.proofs.Descents.{zeros-behind}
 use Rattle.links.proofs.Standing.{last-leads, before-page}
 
 -- entry l of the tower that the levels have there
@@ -37,12 +39,12 @@ module _ {img : List ℕ} {root : ℕ} (t : Reading img root) where
         record { small = t .readable .small; low = p .low; high = p .high; fits = omega (arith, head-tall t) }
 
   -- the entries of the last towers below the head's height, and 0 from there on
-  pub after-is : (i height : ℕ) {levels zeros old out : List ℕ} → height ≡ t .table .head .height → length old ≡ 252 → Filled old 252 (λ _. 0) zeros
-      → Filled zeros height (entryOf img levels) out → Before (t .table) (suc i) 252 levels → After (t .table) (suc i) 252 out
-  after-is i height {levels} {zeros} {old} {out} e long z f b =
+  pub after-is : (i height : ℕ) {levels old out : List ℕ} → height ≡ t .table .head .height → old ≡ replicate 252 0
+      → Filled old height (entryOf img levels) out → Before (t .table) (suc i) 252 levels → After (t .table) (suc i) 252 out
+  after-is i height e z f b =
       record {
-        long = f .long ∙ z .long ∙ long;
+        long = f .long ∙ ap length z ∙ length-replicate {A = ℕ} 252 0;
         next = λ l m. by-cases (decLt l height)
             (λ k. f .below l k ∙ leads i b l m (omega arith))
-            (λ k. f .above l (omega arith) ∙ z .below l m ∙ sym (above-head t i l (omega arith)));
+            (λ k. f .above l (omega arith) ∙ ap (λ (ns : List ℕ). getD ns l 0) z ∙ zeros-behind [] 252 l (omega arith) ∙ sym (above-head t i l (omega arith)));
       }

@@ -7,7 +7,7 @@ use mathlib.Core.Path.{_≡_, refl, ap, sym, _∙_, subst}
 use mathlib.Core.Logic.{by-cases}
 use mathlib.Core.Bool.{Bool, true, false, cond}
 use mathlib.Core.List.{List, [], _∷_}
-use lib.ListN.{length, getD, take, drop}
+use lib.ListN.{length, getD, take, drop, List·getD-eq-default}
 use borrow.Author.Tests.{le-ltb}
 use Rattle.blockfile.specs.Bytes.{Every}
 use Rattle.blockfile.specs.Layout.{Entry, Tower, columns, spansOf, towersOf}
@@ -24,7 +24,8 @@ use Rattle.search.specs.Paths.{PathIn}
 use Rattle.search.proofs.Tables.{ordered}
 use Rattle.search.proofs.Towers.{last-first, head-tall}
 use Rattle.search.proofs.Descents.{way-long, way-at, way-none}
-use Rattle.links.specs.Levels.{Filled, Before, PathAt, orHead}
+use Rattle.search.specs.Paths.{Filled}
+use Rattle.links.specs.Levels.{Before, PathAt, Pages, orHead}
 use Rattle.links.proofs.Standing.{before-page}
 
 -- ---- From the path to the towers before a place
@@ -66,6 +67,15 @@ or-some head zero r z e = absurd (z refl)
 or-some head (suc n) r z e = e
 
 module _ {img : List ℕ} {root : ℕ} (t : Reading img root) (j : ℕ) where
+  -- the path has pages of the image, or 0
+  pub path-pages : {path : List ℕ} → PathAt (t .table) (suc j) path → Pages path
+  path-pages {path} p = record { long = p .before .long; small = small }
+    where
+      small : (l : ℕ) → getD path l 0 ≤ 4096
+      small l =
+          by-cases (decLt l (t .table .head .height)) (λ b. omega (arith, before-page t (p .before) l b .high, t .readable .small))
+          (λ b. by-cases (decLt l 252) (λ c. omega (arith, p .none l (omega arith) c)) (λ c. omega (arith, List·getD-eq-default path 0 {n = l} (omega (arith, p .before .long)))))
+
   head-last : (l : ℕ) → t .table .head .height ≤ l → lastAt l (t .table .head .page) (towersOf (take (suc j) (columns (t .table)))) ≡ t .table .head .page
   head-last l h =
       last-first l (t .table .head) (towersOf (take j (t .table .rest)))

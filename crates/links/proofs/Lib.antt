@@ -1,5 +1,4 @@
 pub mod Written
-pub mod Fills
 pub mod Standing
 pub mod Leading
 pub mod Behind

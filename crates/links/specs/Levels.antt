@@ -11,12 +11,6 @@ use Rattle.blockfile.specs.Remove.{towersAt}
 use Rattle.entries.specs.Places.{IsPage}
 use Rattle.search.specs.Tables.{Reading}
 
--- the levels, where each level l below h becomes f l, are `out`
-pub record Filled (levels : List ℕ) (h : ℕ) (f : ℕ → ℕ) (out : List ℕ) : Type 0 where
-  pub long : length out ≡ length levels
-  pub below : (l : ℕ) → l < h → getD out l 0 ≡ f l
-  pub above : (l : ℕ) → h ≤ l → getD out l 0 ≡ getD levels l 0
-
 -- each level below h has the last tower before place j whose current is above it, the head if there is no other
 pub record Before (t : Table) (j h : ℕ) (levels : List ℕ) : Type 0 where
   pub long : length levels ≡ 252
@@ -44,6 +38,11 @@ pub record PathTo (img : List ℕ) (root page : ℕ) (levels : List ℕ) : Type 
   pub is : (t : Reading img root) (i : ℕ) → SpanAt t page i → PathAt (t .table) (suc i) levels
 
 -- ---- towers_before
+
+-- page numbers, or 0
+pub record Pages (path : List ℕ) : Type 0 where
+  pub long : length path ≡ 252
+  pub small : (l : ℕ) → getD path l 0 ≤ 4096
 
 -- a page of a path; the head where there is none
 abbrev pub orHead : (head page : ℕ) → ℕ

@@ -1,24 +1,13 @@
 // The towers around a place of a table: for each level the last tower before it, and the next one from there on.
 ghost use Prim.Native.Nat.{_+_, _*_, _≤_};
 ghost use mathlib.Core.Path.{_≡_};
-ghost use lib.ListN.{length, getD};
+ghost use lib.ListN.{length, getD, replicate};
 ghost use Rattle.blockfile.specs.Bytes.{pg, be32};
 ghost use Rattle.pages.specs.Places.{Inside};
-ghost use Rattle.links.specs.Levels.{Filled, orHead, HasBefore, AfterIn, Precedes, TowerOn};
+ghost use Rattle.search.specs.Paths.{Filled};
+ghost use Rattle.links.specs.Levels.{Pages, orHead, HasBefore, AfterIn, Precedes, TowerOn};
 use pages::read::get16;
 use pages::read::get32;
-
-// The first `height` levels become `page`.
-pub fn fill(levels: &mut [usize; 252], height: usize, page: usize)
-    requires { ⌜ (height ≤ 252) × (length (now levels) ≡ 252) ⌝ }
-    ensures { λ _. ⌜ Filled (now (levels .entry)) height (λ _. page) (now (levels .exit)) ⌝ }
-{
-    let mut i = 0;
-    while i < height {
-        levels[i] = page;
-        i += 1;
-    }
-}
 
 fn or_head(head: usize, page: usize) -> usize
     ensures { λ r. ⌜ r ≡ orHead head page ⌝ }
@@ -27,24 +16,24 @@ fn or_head(head: usize, page: usize) -> usize
 }
 
 // For each level the tower of the path; the head from the path's height on, where it has 0.
-pub fn towers_before(path: &[usize; 252], head: usize, before: &mut [usize; 252])
-    requires { ⌜ (length (now path) ≡ 252) × (length (now before) ≡ 252) ⌝ }
+pub fn towers_before(path: &[u32; 252], head: usize, before: &mut [usize; 252])
+    requires { ⌜ Pages (now path) × (length (now before) ≡ 252) ⌝ }
     ensures { λ _. ⌜ Filled (now (before .entry)) 252 (λ l. orHead head (getD (now (path .entry)) l 0)) (now (before .exit)) ⌝ }
 {
     let mut i = 0;
     while i < 252 {
-        before[i] = or_head(head, path[i]);
+        before[i] = or_head(head, path[i] as usize);
         i += 1;
     }
 }
 
-// For each level the page of the next tower after the one in `before`, 0 for none: no tower is higher than the head.
+// For each level the page of the next tower after the one in `before`; 0 for none, as all of `after` is before: no tower is higher than
+// the head.
 pub fn towers_after(image: &[u8], root: usize, before: &[usize; 252], after: &mut [usize; 252])
-    requires { ⌜ HasBefore (now image) root (now before) × (length (now after) ≡ 252) ⌝ }
+    requires { ⌜ HasBefore (now image) root (now before) × (now after ≡ replicate 252 0) ⌝ }
     ensures { λ _. ⌜ AfterIn (now (image .entry)) root (now (before .entry)) (now (after .exit)) ⌝ }
 {
     let height = get16(image, get32(image, root, 12), 10);
-    fill(after, 252, 0);
     let mut i = 0;
     while i < height {
         after[i] = get32(image, before[i], 16 + 4 * i);
@@ -54,11 +43,11 @@ pub fn towers_after(image: &[u8], root: usize, before: &[usize; 252], after: &mu
 
 // The page of the tower of the span on `page`, 0 if it has none, where the path has the last towers before that span: the next tower is
 // the span's if it names the span. A path without levels is that of a table with no tower but the head.
-pub fn tower_of(image: &[u8], path: &[usize; 252], page: usize) -> usize
+pub fn tower_of(image: &[u8], path: &[u32; 252], page: usize) -> usize
     requires { ⌜ Precedes (now image) page (now path) ⌝ }
     ensures { λ r. ⌜ TowerOn (now (image .entry)) page (now (path .entry)) r ⌝ }
 {
-    let lowest = path[0];
+    let lowest = path[0] as usize;
     if lowest == 0 {
         return 0;
     }

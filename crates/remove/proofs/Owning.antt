@@ -9,8 +9,8 @@ use Rattle.blockfile.specs.Layout.{Tower}
 use Rattle.pages.specs.Places.{Inside}
 use Rattle.search.specs.Tables.{Reading}
 use Rattle.search.proofs.Towers.{head-tall}
-use Rattle.links.specs.Levels.{Filled, Preceded, TowerAt, TowerOn}
-use Rattle.links.proofs.Relinked.{before-less}
+use Rattle.search.specs.Paths.{Filled}
+use Rattle.links.specs.Levels.{Preceded, TowerAt, TowerOn}
 use Rattle.remove.specs.Gone.{pageIn}
 use Rattle.remove.specs.Towers.{TowerFor}
 
@@ -29,7 +29,7 @@ module _ {img : List ℕ} {root page : ℕ} (t : Reading img root) (k : ℕ) {pa
   pub tower-none : tower ≡ 0 → TowerFor img (t .table) k path (record { page = 0; height = 0; after = replicate 252 0 })
   tower-none z =
       record {
-        before = before-less (omega arith) (a .path .before);
+        before = a .path;
         after = record { long = length-replicate {A = ℕ} 252 0; next = λ l m. absurd (omega arith) };
         inside = λ n. absurd (n refl);
         pages = ap (map (λ (w : Tower). w .page)) (own .none z);
@@ -48,7 +48,7 @@ module _ {img : List ℕ} {root page : ℕ} (t : Reading img root) (k : ℕ) {pa
     tower-some long f =
         let s = own .some z in
         record {
-          before = before-less (omega (arith, own .low z)) (a .path .before);
+          before = a .path;
           after = record { long = f .long ∙ long; next = λ l m. f .below l m ∙ own .nexts z l (omega arith) };
           inside = own .page;
           pages = ap (map (λ (w : Tower). w .page)) (s .1) ∙ ap (λ (n : ℕ). n ∷ []) (sym (s .2)) ∙ sym (page-some tower z);

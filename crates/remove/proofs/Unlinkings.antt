@@ -23,8 +23,10 @@ use Rattle.pages.specs.Places.{Inside}
 use Rattle.entries.specs.Places.{IsPage}
 use Rattle.search.specs.Tables.{Reading}
 use Rattle.links.specs.Links.{linkWrites, Linkable}
-use Rattle.links.specs.Levels.{Preceded, Precedes}
-use Rattle.links.proofs.Relinked.{before-linkable, gone-links}
+use Rattle.search.specs.Paths.{Filled}
+use Rattle.links.specs.Levels.{Before, Pages, orHead, Preceded, Precedes}
+use Rattle.links.proofs.Leading.{path-pages, before-all}
+use Rattle.links.proofs.Relinked.{before-less, before-linkable, gone-links}
 use Rattle.edit.specs.declared.fields.Links.{Links}
 use Rattle.edit.specs.declared.fields.SkipList.{SkipList}
 use Rattle.edit.specs.Fields.{ListRead}
@@ -154,8 +156,16 @@ module _ {img : List ℕ} {x : Going} {w : OwnTower} {path : List ℕ} {r : KeyR
   abbrev reading : Reading img (x .root)
   reading = record { rule = r; table = t; readable = g .standing .readable; root = sym (g .at) }
 
-  pub levels-ready : {out : List ℕ} → length out ≡ length img → Linkable out path (w .height)
-  levels-ready {out} e = before-linkable reading (suc k) (w .height) (h .tower .low) (h .tower .before) out e
+  pub pages-ready : Pages path
+  pages-ready = path-pages reading k (h .tower .before)
+
+  -- the towers before the span at the levels of its tower, by the path
+  module _ {old before : List ℕ} (long : length old ≡ 252) (f : Filled old 252 (λ l. orHead (x .list .head) (getD path l 0)) before) where
+    before-at : Before t (suc k) (w .height) before
+    before-at = before-less (h .tower .low) (before-all reading k (h .list .head) long (h .tower .before) f)
+
+    pub levels-ready : {out : List ℕ} → length out ≡ length img → Linkable out before (w .height)
+    levels-ready {out} e = before-linkable reading (suc k) (w .height) (h .tower .low) before-at out e
 
   one-tower : length (towersAt t (suc k)) ≡ min 1 (w .page)
   one-tower = sym (length-map (towersAt t (suc k)) (λ (u : Tower). u .page)) ∙ ap length (h .tower .pages) ∙ length-page (w .page)
@@ -179,12 +189,12 @@ module _ {img : List ℕ} {x : Going} {w : OwnTower} {path : List ℕ} {r : KeyR
       ap (λ (n : ℕ). takeMany n bs .writes ++ giveMany (spanAt t (suc k) .conts ++ (spanAt t (suc k) .page ∷ map (λ u. u .page) (towersAt t (suc k)))) (takeMany n bs .free) .writes) z
       ∙ ap₂ (λ (n : ℕ) (ns : List ℕ). giveMany (spanAt t (suc k) .conts ++ (n ∷ ns)) bs .writes) (sym (g .here)) (h .tower .pages)
 
-  levels-coded : gather (λ u. relink (without t (suc k)) (suc k) (u .height)) (towersAt t (suc k)) ≡ linkWrites path (w .after) (w .height)
+  levels-coded : {before : List ℕ} → Before t (suc k) (w .height) before
+      → gather (λ u. relink (without t (suc k)) (suc k) (u .height)) (towersAt t (suc k)) ≡ linkWrites before (w .after) (w .height)
   unfolding relink
-  levels-coded =
+  levels-coded {before} b =
       gathered (relink (without t (suc k)) (suc k)) (λ u. u .height) (towersAt t (suc k)) ∙ ap (gather (relink (without t (suc k)) (suc k))) (h .tower .heights)
-      ∙ go (w .page) (h .tower .flat)
-      ∙ sym (gone-links t k (g .inside) (w .height) path (w .after) (h .tower .before) (h .tower .after))
+      ∙ go (w .page) (h .tower .flat) ∙ sym (gone-links t k (g .inside) (w .height) before (w .after) b (h .tower .after))
     where
       go : (n : ℕ) → (n ≡ 0 → w .height ≡ 0) → gather (relink (without t (suc k)) (suc k)) (map (λ _. w .height) (pageIn n)) ≡ relink (without t (suc k)) (suc k) (w .height)
       go zero z = ap (relink (without t (suc k)) (suc k)) (sym (z refl))
@@ -206,29 +216,31 @@ module _ {img : List ℕ} {x : Going} {w : OwnTower} {path : List ℕ} {r : KeyR
       (ap (map prevLink) (unlinked-prev t k (g .inside)) ∙ prev-on (t .spanSize) (spanAt t k .page) (spansPast t (suc k)) (past-pages (g .standing .readable) (suc k) (g .inside)))
       ∙ (λ j. aroundWrites (sym prev-at j) (sym next-at j) ++ ws)
 
-  links-coded : unlinking (without t (suc k)) (suc k) (towersAt t (suc k))
-      ≡ aroundWrites (x .links .prev) (x .links .next) ++ (linkWrites path (w .after) (w .height) ++ lowered x (w .page))
-  unfolding unlinking
-  links-coded =
-      spans-coded (gather (λ u. relink (without t (suc k)) (suc k) (u .height)) (towersAt t (suc k)) ++ (countsOn (without t (suc k)) ∷ []))
-      ∙ (λ j. aroundWrites (x .links .prev) (x .links .next) ++ (levels-coded j ++ counts-coded j))
+  module _ {before : List ℕ} (at : Before t (suc k) (w .height) before) where
+    links-coded : unlinking (without t (suc k)) (suc k) (towersAt t (suc k))
+        ≡ aroundWrites (x .links .prev) (x .links .next) ++ (linkWrites before (w .after) (w .height) ++ lowered x (w .page))
+    unfolding unlinking
+    links-coded =
+        spans-coded (gather (λ u. relink (without t (suc k)) (suc k) (u .height)) (towersAt t (suc k)) ++ (countsOn (without t (suc k)) ∷ []))
+        ∙ (λ j. aroundWrites (x .links .prev) (x .links .next) ++ (levels-coded at j ++ counts-coded j))
 
-  written : {out1 out2 out3 out4 : List ℕ} → GaveGone img (x .links .first) (x .page) (w .page) out1 → out2 ≡ apply (aroundWrites (x .links .prev) (x .links .next)) out1
-      → out3 ≡ apply (linkWrites path (w .after) (w .height)) out2 → out4 ≡ apply (lowered x (w .page)) out3 → out4 ≡ apply (unlinkWrites t k bs) img
-  written {out1} a b c d =
-      let gs : List Write = giveMany (spanAt t (suc k) .conts ++ (x .page ∷ pageIn (w .page))) bs .writes in
-      let ss : List Write = aroundWrites (x .links .prev) (x .links .next) in
-      let ls : List Write = linkWrites path (w .after) (w .height) in
-      d ∙ ap (apply (lowered x (w .page))) (c ∙ ap (apply ls) (b ∙ ap (apply ss) (a .image span)))
-      ∙ sym (apply-append ls (lowered x (w .page)) (apply ss (apply gs img)))
-      ∙ sym (apply-append ss (ls ++ lowered x (w .page)) (apply gs img))
-      ∙ sym (apply-append gs (ss ++ (ls ++ lowered x (w .page))) img)
-      ∙ ap₂ (λ (p q : List Write). apply (p ++ q) img) (sym given-coded) (sym links-coded)
+    written : {out1 out2 out3 out4 : List ℕ} → GaveGone img (x .links .first) (x .page) (w .page) out1 → out2 ≡ apply (aroundWrites (x .links .prev) (x .links .next)) out1
+        → out3 ≡ apply (linkWrites before (w .after) (w .height)) out2 → out4 ≡ apply (lowered x (w .page)) out3 → out4 ≡ apply (unlinkWrites t k bs) img
+    written {out1} a b c d =
+        let gs : List Write = giveMany (spanAt t (suc k) .conts ++ (x .page ∷ pageIn (w .page))) bs .writes in
+        let ss : List Write = aroundWrites (x .links .prev) (x .links .next) in
+        let ls : List Write = linkWrites before (w .after) (w .height) in
+        d ∙ ap (apply (lowered x (w .page))) (c ∙ ap (apply ls) (b ∙ ap (apply ss) (a .image span)))
+        ∙ sym (apply-append ls (lowered x (w .page)) (apply ss (apply gs img)))
+        ∙ sym (apply-append ss (ls ++ lowered x (w .page)) (apply gs img))
+        ∙ sym (apply-append gs (ss ++ (ls ++ lowered x (w .page))) img)
+        ∙ ap₂ (λ (p q : List Write). apply (p ++ q) img) (sym given-coded) (sym links-coded)
 
-pub let-go : {img : List ℕ} {x : Going} {w : OwnTower} {path out1 out2 out3 out4 : List ℕ} → GaveGone img (x .links .first) (x .page) (w .page) out1
-    → out2 ≡ apply (aroundWrites (x .links .prev) (x .links .next)) out1 → out3 ≡ apply (linkWrites path (w .after) (w .height)) out2
+pub let-go : {img : List ℕ} {x : Going} {w : OwnTower} {path old before out1 out2 out3 out4 : List ℕ} → length old ≡ 252
+    → Filled old 252 (λ l. orHead (x .list .head) (getD path l 0)) before → GaveGone img (x .links .first) (x .page) (w .page) out1
+    → out2 ≡ apply (aroundWrites (x .links .prev) (x .links .next)) out1 → out3 ≡ apply (linkWrites before (w .after) (w .height)) out2
     → out4 ≡ apply (lowered x (w .page)) out3 → LetGo img x w path out4
-let-go a b c d = record { image = λ r t bs k h. written h a b c d }
+let-go long f a b c d = record { image = λ r t bs k h. written h (before-at h long f) a b c d }
 
 -- ---- `unlink`
 

@@ -6,13 +6,13 @@ use Rattle.blockfile.specs.Layout.{Table}
 use Rattle.blockfile.specs.Remove.{towersAt}
 use Rattle.entries.specs.Places.{IsPage}
 use Rattle.search.specs.Tables.{Reading}
-use Rattle.links.specs.Levels.{Before, After, Preceded}
+use Rattle.links.specs.Levels.{After, PathAt, Preceded}
 use Rattle.remove.specs.Gone.{pageIn}
 use Rattle.remove.specs.declared.tower.OwnTower.{OwnTower}
 
--- x is the tower at place k + 1, and the path has the towers before it
+-- x is the tower at place k + 1, and the path has the last towers before it
 pub record TowerFor (img : List ℕ) (t : Table) (k : ℕ) (path : List ℕ) (x : OwnTower) : Type 0 where
-  pub before : Before t (suc k) (x .height) path
+  pub before : PathAt t (suc k) path
   pub after : After t (suc (suc k)) (x .height) (x .after)
   pub inside : (x .page ≡ 0 → ⊥) → IsPage img (x .page)
   pub pages : map (λ w. w .page) (towersAt t (suc k)) ≡ pageIn (x .page)

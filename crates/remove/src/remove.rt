@@ -47,7 +47,7 @@ pub fn remove(image: &mut [u8], scratch: &mut [u8], table: TableRef, key: &[u8])
     ensures { λ r. ⌜ RemoveDone (now (image .entry)) table (now (key .entry)) r (now (image .exit)) ⌝ }
 {
     let path = descend(image, table, key, true);
-    let page = find_from(image, table, path.pages[0], key);
+    let page = find_from(image, table, path.pages[0] as usize, key);
     let sort = table.sort;
     let spot = find_spot(image, page, sort, key);
     if spot.there == 0 {

@@ -9,6 +9,7 @@ use edit::counts::at_most_one;
 use edit::fields::Links;
 use edit::fields::SkipList;
 use edit::fields::read_list;
+use links::around::towers_before;
 use links::write::link_levels;
 use links::write::put_counts;
 use pages::write::put32;
@@ -44,20 +45,22 @@ fn lower_counts(image: &mut [u8], going: Going, tower: usize)
 }
 
 // Gives the pages back and writes the links around them.
-fn let_go(image: &mut [u8], going: Going, tower: OwnTower, path: &[usize; 252])
+fn let_go(image: &mut [u8], going: Going, tower: OwnTower, path: &[u32; 252])
     requires { ⌜ GoingReady (now image) going tower (now path) ⌝ }
     ensures { λ _. ⌜ LetGo (now (image .entry)) going tower (now (path .entry)) (now (image .exit)) ⌝ }
 {
+    let mut before = [0usize; 252];
+    towers_before(path, going.list.head, &mut before);
     let after = tower.after;
     give_gone(image, going.links.first, going.page, tower.page);
     link_spans(image, going.links.prev, going.links.next);
-    link_levels(image, path, &after, tower.height);
+    link_levels(image, &before, &after, tower.height);
     lower_counts(image, going, tower.page)
 }
 
 // Unlinks the span on `page` of the table with the skip-list page `root`, and gives it back; `links` is what its page says, and the path
 // has the towers before it.
-pub fn unlink(image: &mut [u8], root: usize, page: usize, links: Links, path: &[usize; 252])
+pub fn unlink(image: &mut [u8], root: usize, page: usize, links: Links, path: &[u32; 252])
     requires { ⌜ UnlinkReady (now image) root page links (now path) ⌝ }
     ensures { λ _. ⌜ Unlinked (now (image .entry)) root page links (now (path .entry)) (now (image .exit)) ⌝ }
 {

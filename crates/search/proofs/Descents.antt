@@ -1,16 +1,16 @@
 -- The way down the towers: which columns stand ahead on a level, each step, and the walk along the spans behind it.
 use Prim.Native.Nat.{ℕ, zero, suc, _+_, _*_, _-_, _≤_, _<_}
 use native.Mathlib.Omega.{arith}
-use native.Mathlib.Decide.{decLt}
+use native.Mathlib.Decide.{decLt, ℕ-discrete}
 use mathlib.Core.Path.{_≡_, refl, ap, sym, _∙_, subst}
 use mathlib.Core.Logic.{_⊎_, inl, inr, by-cases}
 use mathlib.Core.Bool.{Bool, true, false, cond, not, true≢false}
 use mathlib.Core.Option.{Option, none, some}
 use mathlib.Core.List.{List, [], _∷_, _++_, map}
 use lib.ListN.{length, getD, set, take, drop, replicate, length-map, length-append, length-drop, length-replicate, length-set, take-append-drop}
-use lib.Seq.{getD-take, getD-drop, length-take-le}
+use lib.Seq.{getD-take, getD-drop, getD-set-same, getD-set-other, ext-getD, length-take-le}
 use lib.Dec.{ltb}
-use borrow.Author.Tests.{ltb-true, lt-ltb, not-true, not-false}
+use borrow.Author.Tests.{ltb-true, ltb-false, lt-ltb, le-ltb}
 use Rattle.blockfile.specs.Bytes.{pg, be16, be32, Every, from, padded}
 use Rattle.blockfile.specs.Layout.{Entry, Span, Tower, Column, Table, columns, spansOf, towersOf, towerIn}
 use Rattle.blockfile.specs.WellFormed.{tower, nextAt, linkTowers}
@@ -23,10 +23,10 @@ use Rattle.entries.specs.Places.{IsPage}
 use Rattle.search.specs.declared.span.Bound.{Bound}
 use Rattle.search.specs.declared.table.TableRef.{TableRef}
 use Rattle.search.specs.declared.path.Path.{Path}
-use Rattle.search.specs.Spans.{SpanBy, Borne, over, OverOn}
+use Rattle.search.specs.Spans.{FilledBy, Borne, OverOn}
 use Rattle.search.specs.Tables.{Reading, ReadingBy}
-use Rattle.search.specs.Paths.{Way, PathIn, Ahead, Refused, Judged, LowestIn}
-use Rattle.search.proofs.Tables.{ordered, reading-spans, reading-by, said-at, only-first, begun-over, later-over}
+use Rattle.search.specs.Paths.{Filled, Way, PathIn, Ahead, Refused, Judged, LowestIn}
+use Rattle.search.proofs.Tables.{ordered, reading-spans, said-at, reading-filled}
 use Rattle.search.proofs.Distinct.{pageAt, places}
 use Rattle.search.proofs.Towers.{linked, entry-here, AllBorne, towers-from, head-tall, head-borne, reading-head}
 
@@ -56,7 +56,7 @@ module _ (img : List ℕ) (N F : Column → Type 0) (l : ℕ) (far : List Column
 
   -- none of the near columns has a tower on the level
   record Stay (ts : List Tower) (n : ℕ) : Type 0 where
-    last : (p : ℕ) → lastAt l p ts ≡ p
+    last : (m p : ℕ) → l ≤ m → lastAt m p ts ≡ p
     other : (n ≡ 0 → ⊥) → Other n
 
   others : (cs : List Column) → AllBorne img cs → Every F cs → (nextAt l (towersOf cs) ≡ 0 → ⊥) → Other (nextAt l (towersOf cs))
@@ -95,7 +95,7 @@ module _ (img : List ℕ) (N F : Column → Type 0) (l : ℕ) (far : List Column
       }
 
   ahead : (todo : List Column) → AllBorne img (todo ++ far) → Every N todo → Every F far → Either (towersOf todo) (length todo) (nextAt l (towersOf (todo ++ far)))
-  ahead [] b n f = inr (record { last = λ p. refl; other = others far b f })
+  ahead [] b n f = inr (record { last = λ m p h. refl; other = others far b f })
   ahead (c ∷ cs) b n f = go (c .tower) b (ahead cs)
     where
       go : (o : Option Tower) → Every (λ x. Borne img (tower x)) (map (λ t. linked t (c .span .page) (towersOf (cs ++ far))) (towerIn o) ++ linkTowers (cs ++ far))
@@ -110,7 +110,11 @@ module _ (img : List ℕ) (N F : Column → Type 0) (l : ℕ) (far : List Column
         where
           low : ltb l (w .height) ≡ false → Either (towersOf cs) (length cs) (nextAt l (towersOf (cs ++ far))) → Either (w ∷ towersOf cs) (suc (length cs)) (nextAt l (towersOf (cs ++ far)))
           low e (inl m) = inl (move-on (w ∷ towersOf cs) (λ i p. cond (ltb i (w .height)) (w .page) p) (λ i p. refl) m)
-          low e (inr s) = inr (record { last = λ p. ap (λ (v : Bool). lastAt l (cond v (w .page) p) (towersOf cs)) e ∙ s .last p; other = s .other })
+          low e (inr s) =
+              inr (record {
+                last = λ m p h. ap (λ (v : Bool). lastAt m (cond v (w .page) p) (towersOf cs)) (le-ltb m (w .height) (omega (arith, ltb-false l (w .height) e))) ∙ s .last m p h;
+                other = s .other;
+              })
 
           by : (v : Bool) → ltb l (w .height) ≡ v → Either (w ∷ towersOf cs) (suc (length cs)) (cond v (w .page) (nextAt l (towersOf (cs ++ far))))
           by true e =
@@ -131,20 +135,12 @@ module _ (img : List ℕ) (N F : Column → Type 0) (l : ℕ) (far : List Column
 
 -- ---- Zeros and numbers
 
-zeros-append : (a b : ℕ) → replicate {A = ℕ} (a + b) 0 ≡ replicate a 0 ++ replicate b 0
-zeros-append zero b = let e : 0 + b ≡ b = omega arith in rw e
-zeros-append (suc a) b = let e : suc a + b ≡ suc (a + b) = omega arith in rw e (ap (λ (l : List ℕ). 0 ∷ l) (zeros-append a b))
-
-set-behind : (l v : ℕ) (xs : List ℕ) → set (replicate (suc l) 0 ++ xs) l v ≡ replicate l 0 ++ v ∷ xs
-set-behind zero v xs = refl
-set-behind (suc l) v xs = ap (λ (ys : List ℕ). 0 ∷ ys) (set-behind l v xs)
-
 numbered-at : (f : ℕ → ℕ) (i n l : ℕ) (zs : List ℕ) → l < n → getD (map f (from i n) ++ zs) l 0 ≡ f (i + l)
 numbered-at f i zero l zs h = absurd (omega arith)
 numbered-at f i (suc n) zero zs h = let e : i ≡ i + 0 = omega arith in ap f e
 numbered-at f i (suc n) (suc l) zs h = let e : suc i + l ≡ i + suc l = omega arith in numbered-at f (suc i) n l zs (omega arith) ∙ ap f e
 
-zeros-behind : (ns : List ℕ) (m l : ℕ) → length ns ≤ l → getD (ns ++ replicate m 0) l 0 ≡ 0
+pub zeros-behind : (ns : List ℕ) (m l : ℕ) → length ns ≤ l → getD (ns ++ replicate m 0) l 0 ≡ 0
 zeros-behind [] zero l h = refl
 zeros-behind [] (suc m) zero h = refl
 zeros-behind [] (suc m) (suc l) h = zeros-behind [] m l (omega arith)
@@ -195,22 +191,20 @@ module _ {img : List ℕ} {d : TableRef} (x : ReadingBy img d) (k : List ℕ) (s
   -- a column's span is one of the table's, and b says whether it begins past the bound
   pub record Known (b : Bool) (c : Column) : Type 0 where
     pub place : ℕ
-    pub there : place < places t
-    pub is : c .span .page ≡ pageAt t place
-    pub test : over strict (t .rule) k (spanAt (t .table) place .entries) ≡ b
+    pub there : suc place < places t
+    pub is : c .span .page ≡ pageAt t (suc place)
+    pub test : not (begun strict (t .rule) k (spanAt (t .table) (suc place) .entries)) ≡ b
 
-  known-at : (b : Bool) (i : ℕ) → suc i < places t → over strict (t .rule) k (spanAt (t .table) (suc i) .entries) ≡ b → Known b (columnAt (t .table) (suc i))
-  known-at b i h e = record { place = suc i; there = h; is = ap (λ (s : Span). s .page) (sym (span-at (t .table) (suc i))); test = e }
+  known-at : (b : Bool) (i : ℕ) → suc i < places t → not (begun strict (t .rule) k (spanAt (t .table) (suc i) .entries)) ≡ b → Known b (columnAt (t .table) (suc i))
+  known-at b i h e = record { place = i; there = h; is = ap (λ (s : Span). s .page) (sym (span-at (t .table) (suc i))); test = e }
 
-  over-near : (i : ℕ) → i < goal → over strict (t .rule) k (spanAt (t .table) (suc i) .entries) ≡ false
+  over-near : (i : ℕ) → i < goal → not (begun strict (t .rule) k (spanAt (t .table) (suc i) .entries)) ≡ false
   unfolding spanAt
-  over-near i l = begun-over strict (t .rule) k (getD spans i (t .table .first) .entries) (cut-begun spans goal (t .table .first) cut i l)
+  over-near i l = ap not (cut-begun spans goal (t .table .first) cut i l)
 
-  over-far : (i : ℕ) → suc i < places t → goal ≤ i → over strict (t .rule) k (spanAt (t .table) (suc i) .entries) ≡ true
+  over-far : (i : ℕ) → suc i < places t → goal ≤ i → not (begun strict (t .rule) k (spanAt (t .table) (suc i) .entries)) ≡ true
   unfolding spanAt
-  over-far i h l =
-      later-over strict (t .rule) k (getD spans i (t .table .first) .entries) (λ z. omega (arith, only-first t (suc i) h z))
-      (cut-later spans goal (t .table .first) cut i l (omega (arith, many)))
+  over-far i h l = ap not (cut-later spans goal (t .table .first) cut i l (omega (arith, many)))
 
   abbrev firstColumn : Column
   firstColumn = record { span = t .table .first; tower = some (t .table .head) }
@@ -230,11 +224,11 @@ module _ {img : List ℕ} {d : TableRef} (x : ReadingBy img d) (k : List ℕ) (s
       subst (Known true) (sym (getD-drop goal (t .table .rest) i firstColumn)) (known-at true (goal + i) h (over-far (goal + i) h (omega arith))))
 
   -- what is said of every span on the column's page
-  known-span : {b : Bool} {c : Column} → Known b c → (n : ℕ) → n ≡ c .span .page → SpanBy img n (d .sort)
-  known-span y n e = reading-by t (y .place) (y .there) n (e ∙ y .is) (x .by)
+  known-span : {b : Bool} {c : Column} → Known b c → (n : ℕ) → n ≡ c .span .page → FilledBy img n (d .sort)
+  known-span y n e = reading-filled t (y .place) (y .there) n (e ∙ y .is) (x .by)
 
   known-over : {b : Bool} {c : Column} → Known b c → (n : ℕ) → n ≡ c .span .page → (v : Bool) → OverOn img n bound k v → v ≡ b
-  known-over y n e v o = said-at t (y .place) (y .there) n (e ∙ y .is) (x .by) (λ r es. v ≡ over strict r k es) (o .is) ∙ y .test
+  known-over y n e v o = said-at t (suc (y .place)) (y .there) n (e ∙ y .is) (x .by) (λ r es. v ≡ not (begun strict r k es)) (o .is) ∙ y .test
 
   -- ---- The way so far: at a tower of height `level` or more, the columns `todo` being the near ones ahead
 
@@ -272,192 +266,204 @@ module _ {img : List ℕ} {d : TableRef} (x : ReadingBy img d) (k : List ℕ) (s
         count = omega (arith, g, reading-spans t, length-take-le goal (t .table .rest) goal-most, goal-most);
       }
 
-  module _ {here level left : ℕ} (w : Going here level left) (z : level ≡ 0 → ⊥) where
-    pub going-inside : Inside img here (12 + 4 * level) 4
-    going-inside =
-        subst (λ (p : ℕ). Inside img p (12 + 4 * level) 4) (sym (w .page))
-        (record { small = t .readable .small; low = w .on .1 .0 .low; high = w .on .1 .0 .high; fits = omega (arith, w .few) })
+  -- a page of the image
+  pub going-page : {here level left : ℕ} → Going here level left → IsPage img here
+  going-page w = subst (IsPage img) (sym (w .page)) (w .on .1 .0)
 
-    module _ (next : ℕ) (e : next ≡ be32 (pg img here) (12 + 4 * level)) where
-      abbrev below : ℕ
-      below = level - 1
+  module _ {here level left : ℕ} (w : Going here level left) where
+    -- the entry of the level below, as the code counts its offset
+    module _ (z : level ≡ 0 → ⊥) where
+      below-offset : 12 + 4 * level ≡ 16 + 4 * (level - 1)
+      below-offset = omega (arith, z)
 
-      next-is : next ≡ nextAt below (towersOf (w .todo ++ farOf))
-      next-is =
-          let o : 12 + 4 * level ≡ 16 + 4 * below = omega (arith, z) in
-          e ∙ ap (λ (p : ℕ). be32 (pg img p) (12 + 4 * level)) (w .page) ∙ ap (be32 (pg img (w .own .page))) o
-          ∙ entry-here img (w .own) (w .spanPage) (towersOf (w .todo ++ farOf)) (w .on) below (omega (arith, w .high, z))
+      pub entry-below : (next : ℕ) → next ≡ be32 (pg img here) (12 + 4 * level) → next ≡ be32 (pg img here) (16 + 4 * (level - 1))
+      entry-below next e = e ∙ ap (be32 (pg img here)) below-offset
 
-      abbrev Moved : Type 0
-      Moved = Move img (Known false) (Known true) below farOf (towersOf (w .todo)) (length (w .todo)) next
+      pub inside-below : Inside img here (16 + 4 * (level - 1)) 4 → Inside img here (12 + 4 * level) 4
+      inside-below i = subst (λ (o : ℕ). Inside img here o 4) (sym below-offset) i
 
-      abbrev Stayed : Type 0
-      Stayed = Stay img (Known false) (Known true) below farOf (towersOf (w .todo)) next
+    -- what is read of level l, below the one where the way is
+    module _ (l : ℕ) (m : l < level) where
+      pub going-inside : Inside img here (16 + 4 * l) 4
+      going-inside = let p : IsPage img here = going-page w in record { small = t .readable .small; low = p .low; high = p .high; fits = omega (arith, w .few) }
 
-      which : Moved ⊎ Stayed
-      which =
-          subst (λ (n : ℕ). Either img (Known false) (Known true) below farOf (towersOf (w .todo)) (length (w .todo)) n) (sym next-is)
-          (ahead img (Known false) (Known true) below farOf (w .todo) (w .rest) (w .near) far-known)
+      module _ (next : ℕ) (e : next ≡ be32 (pg img here) (16 + 4 * l)) where
+        next-is : next ≡ nextAt l (towersOf (w .todo ++ farOf))
+        next-is =
+            e ∙ ap (λ (p : ℕ). be32 (pg img p) (16 + 4 * l)) (w .page)
+            ∙ entry-here img (w .own) (w .spanPage) (towersOf (w .todo ++ farOf)) (w .on) l (omega (arith, w .high))
 
-      moved-names : (m : Moved) → be32 (pg img next) 12 ≡ m .column .span .page
-      moved-names m = ap (λ (p : ℕ). be32 (pg img p) 12) (m .page) ∙ m .on .0 .spanPage
+        abbrev Moved : Type 0
+        Moved = Move img (Known false) (Known true) l farOf (towersOf (w .todo)) (length (w .todo)) next
 
-      pub going-ahead : Ahead img (d .sort) next
-      going-ahead = go which
-        where
-          inside : IsPage img next → Inside img next 12 4
-          inside p = record { small = t .readable .small; low = p .low; high = p .high; fits = omega arith }
+        abbrev Stayed : Type 0
+        Stayed = Stay img (Known false) (Known true) l farOf (towersOf (w .todo)) next
 
-          go : Moved ⊎ Stayed → Ahead img (d .sort) next
-          go (inl m) =
+        which : Moved ⊎ Stayed
+        which =
+            subst (λ (n : ℕ). Either img (Known false) (Known true) l farOf (towersOf (w .todo)) (length (w .todo)) n) (sym next-is)
+            (ahead img (Known false) (Known true) l farOf (w .todo) (w .rest) (w .near) far-known)
+
+        moved-names : (m : Moved) → be32 (pg img next) 12 ≡ m .column .span .page
+        moved-names m = ap (λ (p : ℕ). be32 (pg img p) 12) (m .page) ∙ m .on .0 .spanPage
+
+        pub going-ahead : Ahead img (d .sort) next
+        going-ahead = go which
+          where
+            inside : IsPage img next → Inside img next 12 4
+            inside p = record { small = t .readable .small; low = p .low; high = p .high; fits = omega arith }
+
+            go : Moved ⊎ Stayed → Ahead img (d .sort) next
+            go (inl m) =
+                record {
+                  inside = λ n. inside (subst (IsPage img) (sym (m .page)) (m .on .1 .0));
+                  names = λ n. known-span (m .this) (be32 (pg img next) 12) (moved-names m);
+                }
+            go (inr s) =
+                record {
+                  inside = λ n. inside (s .other n .page);
+                  names = λ n. known-span (s .other n .this) (be32 (pg img next) 12) (s .other n .on);
+                }
+
+        stayed : Refused img bound k next → Stayed
+        stayed r = go which r
+          where
+            go : Moved ⊎ Stayed → Refused img bound k next → Stayed
+            go (inr s) r = s
+            go (inl m) (inl n) = absurd (omega (arith, m .on .1 .0 .low, m .page))
+            go (inl m) (inr o) = absurd (true≢false (known-over (m .this) (be32 (pg img next) 12) (moved-names m) true o))
+
+        moved : (next ≡ 0 → ⊥) → OverOn img (be32 (pg img next) 12) bound k false → Moved
+        moved n o = go which
+          where
+            go : Moved ⊎ Stayed → Moved
+            go (inl m) = m
+            go (inr s) = absurd (true≢false (sym (known-over (s .other n .this) (be32 (pg img next) 12) (s .other n .on) false o)))
+
+        -- a level down: at the levels from l on, the way ends here
+        pub going-passed : Refused img bound k next → (i : ℕ) → l ≤ i → i < level → here ≡ passed so (t .table) i
+        going-passed r i a b = sym (w .same i b ∙ stayed r .last i here a)
+
+        -- a tower on
+        module _ (n : next ≡ 0 → ⊥) (o : OverOn img (be32 (pg img next) 12) bound k false) where
+          pub going-some : 1 ≤ left
+          going-some = omega (arith, moved n o .fewer, w .count)
+
+          pub going-on : level ≡ suc l → Going next level (left - 1)
+          going-on z =
+              let y : Moved = moved n o in
               record {
-                inside = λ n. inside (subst (IsPage img) (sym (m .page)) (m .on .1 .0));
-                names = λ n. known-span (m .this) (be32 (pg img next) 12) (moved-names m);
+                own = y .own;
+                spanPage = y .column .span .page;
+                todo = y .more;
+                page = y .page;
+                high = omega (arith, y .tall);
+                few = w .few;
+                on = y .on;
+                rest = y .rest;
+                near = y .near;
+                same = λ i h. w .same i h ∙ y .last i here (omega (arith, y .tall)) ∙ ap (λ (p : ℕ). lastAt i p (towersOf (y .more))) (sym (y .page));
+                count = omega (arith, y .fewer, w .count);
               }
-          go (inr s) =
-              record {
-                inside = λ n. inside (s .other n .page);
-                names = λ n. known-span (s .other n .this) (be32 (pg img next) 12) (s .other n .on);
-              }
 
-      stayed : Refused img bound k next → Stayed
-      stayed r = go which r
-        where
-          go : Moved ⊎ Stayed → Refused img bound k next → Stayed
-          go (inr s) r = s
-          go (inl m) (inl n) = absurd (omega (arith, m .on .1 .0 .low, m .page))
-          go (inl m) (inr o) = absurd (true≢false (known-over (m .this) (be32 (pg img next) 12) (moved-names m) true o))
-
-      moved : (next ≡ 0 → ⊥) → OverOn img (be32 (pg img next) 12) bound k false → Moved
-      moved n o = go which
-        where
-          go : Moved ⊎ Stayed → Moved
-          go (inl m) = m
-          go (inr s) = absurd (true≢false (sym (known-over (s .other n .this) (be32 (pg img next) 12) (s .other n .on) false o)))
-
-      -- a level down
-      pub going-passed : Refused img bound k next → here ≡ passed so (t .table) below
-      going-passed r = sym (w .same below (omega (arith, z)) ∙ stayed r .last here)
-
-      pub going-down : Going here below left
-      going-down =
-          record {
-            own = w .own;
-            spanPage = w .spanPage;
-            todo = w .todo;
-            page = w .page;
-            high = omega (arith, w .high);
-            few = omega (arith, w .few);
-            on = w .on;
-            rest = w .rest;
-            near = w .near;
-            same = λ l h. w .same l (omega arith);
-            count = w .count;
-          }
-
-      -- a tower on
-      module _ (n : next ≡ 0 → ⊥) (o : OverOn img (be32 (pg img next) 12) bound k false) where
-        pub going-some : 1 ≤ left
-        going-some = omega (arith, moved n o .fewer, w .count)
-
-        pub going-on : Going next level (left - 1)
-        going-on =
-            let m : Moved = moved n o in
-            record {
-              own = m .own;
-              spanPage = m .column .span .page;
-              todo = m .more;
-              page = m .page;
-              high = omega (arith, m .tall, z);
-              few = w .few;
-              on = m .on;
-              rest = m .rest;
-              near = m .near;
-              same = λ l h. w .same l h ∙ m .last l here (omega (arith, m .tall, z)) ∙ ap (λ (p : ℕ). lastAt l p (towersOf (m .more))) (sym (m .page));
-              count = omega (arith, m .fewer, w .count);
-            }
+    pub going-down : (l : ℕ) → l ≤ level → Going here l left
+    going-down l h =
+        record {
+          own = w .own;
+          spanPage = w .spanPage;
+          todo = w .todo;
+          page = w .page;
+          high = omega (arith, w .high);
+          few = omega (arith, w .few);
+          on = w .on;
+          rest = w .rest;
+          near = w .near;
+          same = λ i a. w .same i (omega arith);
+          count = w .count;
+        }
 
   -- ---- The pages noted: those of the levels from `level` on
 
   pub record Noted (height level : ℕ) (pages : List ℕ) : Type 0 where
-    pub done : ℕ
-    pub sum : level + done ≡ height
+    pub low : level ≤ height
     pub long : length pages ≡ 252
-    pub are : pages ≡ replicate level 0 ++ (map (passed so (t .table)) (from level done) ++ replicate (252 - height) 0)
+    pub above : (l : ℕ) → level ≤ l → l < height → getD pages l 0 ≡ passed so (t .table) l
+    pub none : (l : ℕ) → height ≤ l → getD pages l 0 ≡ 0
 
-  pub noted-start : (height : ℕ) → height ≤ 252 → Noted height height (replicate 252 0)
-  noted-start height h =
-      let e : height + (252 - height) ≡ 252 = omega arith in
-      record {
-        done = 0;
-        sum = omega arith;
-        long = length-replicate {A = ℕ} 252 0;
-        are = ap (λ (n : ℕ). replicate n 0) (sym e) ∙ zeros-append height (252 - height);
-      }
+  pub noted-start : (height : ℕ) → Noted height height (replicate 252 0)
+  noted-start height =
+      record { low = omega arith; long = length-replicate {A = ℕ} 252 0; above = λ l a b. absurd (omega arith); none = λ l a. zeros-behind [] 252 l (omega arith) }
 
-  pub noted-more : {height level : ℕ} {pages : List ℕ} → Noted height level pages → (level ≡ 0 → ⊥) → (here : ℕ) → here ≡ passed so (t .table) (level - 1)
-      → Noted height (level - 1) (set pages (level - 1) here)
-  noted-more {height} {level} {pages} w z here e =
-      let one : suc (level - 1) ≡ level = omega (arith, z) in
-      let p : ℕ → ℕ = passed so (t .table) in
-      record {
-        done = suc (w .done);
-        sum = omega (arith, w .sum, z);
-        long = length-set pages (level - 1) here ∙ w .long;
-        are = ap (λ (l : List ℕ). set l (level - 1) here) (subst (λ (n : ℕ). pages ≡ replicate n 0 ++ (map p (from n (w .done)) ++ replicate (252 - height) 0)) (sym one) (w .are))
-            ∙ set-behind (level - 1) here (map p (from (suc (level - 1)) (w .done)) ++ replicate (252 - height) 0)
-            ∙ ap (λ (v : ℕ). replicate (level - 1) 0 ++ v ∷ (map p (from (suc (level - 1)) (w .done)) ++ replicate (252 - height) 0)) e;
-      }
+  module _ {height level : ℕ} {pages : List ℕ} (w : Noted height level pages) where
+    -- the level below is noted
+    pub noted-more : (l : ℕ) → level ≡ suc l → l < 252 → (here : ℕ) → here ≡ passed so (t .table) l → Noted height l (set pages l here)
+    noted-more l z few here e =
+        record {
+          low = omega (arith, w .low);
+          long = length-set pages l here ∙ w .long;
+          above = λ i a b. by-cases (ℕ-discrete i l)
+              (λ q. ap (λ (j : ℕ). getD (set pages l here) j 0) q ∙ getD-set-same pages l here 0 (omega (arith, w .long)) ∙ e ∙ ap (passed so (t .table)) (sym q))
+              (λ q. getD-set-other pages l i here 0 q ∙ w .above i (omega (arith, q)) b);
+          none = λ i a. getD-set-other pages l i here 0 (omega (arith, w .low)) ∙ w .none i a;
+        }
 
-  pub noted-end : {height level : ℕ} {pages : List ℕ} → Noted height level pages → level ≡ 0 → height ≡ t .table .head .height
-      → Way so (t .table) (record { pages = pages; height = height })
+    -- all levels below are
+    pub noted-all : (here : ℕ) → ((l : ℕ) → l < level → here ≡ passed so (t .table) l) → {out : List ℕ} → Filled pages level (λ _. here) out → Noted height 0 out
+    noted-all here e f =
+        record {
+          low = omega arith;
+          long = f .long ∙ w .long;
+          above = λ l a b. by-cases (decLt l level) (λ h. f .below l h ∙ e l h) (λ h. f .above l (omega arith) ∙ w .above l (omega arith) b);
+          none = λ l a. f .above l (omega (arith, w .low)) ∙ w .none l a;
+        }
+
+  levels-many : length (map (passed so (t .table)) (from 0 (t .table .head .height))) ≡ t .table .head .height
+  levels-many = length-map (from 0 (t .table .head .height)) (passed so (t .table)) ∙ length-from 0 (t .table .head .height)
+
+  path-long : length (padded 252 (path so (t .table))) ≡ 252
   unfolding path
-  noted-end {height} {level} {pages} w z e =
-      let p : ℕ → ℕ = passed so (t .table) in
-      let all : w .done ≡ t .table .head .height = omega (arith, w .sum, z, e) in
-      let long : length (map p (from 0 (t .table .head .height))) ≡ height = length-map (from 0 (t .table .head .height)) p ∙ length-from 0 (t .table .head .height) ∙ sym e in
+  path-long =
+      let ns : List ℕ = map (passed so (t .table)) (from 0 (t .table .head .height)) in
+      length-append ns (replicate (252 - length ns) 0) ∙ omega (arith, levels-many, head-tall t, length-replicate {A = ℕ} (252 - length ns) 0)
+
+  path-at : (l : ℕ) → l < t .table .head .height → getD (padded 252 (path so (t .table))) l 0 ≡ passed so (t .table) l
+  unfolding path
+  path-at l h =
+      let f : ℕ → ℕ = passed so (t .table) in
+      let n : ℕ = t .table .head .height in
+      let z : 0 + l ≡ l = omega arith in
+      numbered-at f 0 n l (replicate (252 - length (map f (from 0 n))) 0) h ∙ ap f z
+
+  path-none : (l : ℕ) → t .table .head .height ≤ l → getD (padded 252 (path so (t .table))) l 0 ≡ 0
+  unfolding path
+  path-none l h =
+      let ns : List ℕ = map (passed so (t .table)) (from 0 (t .table .head .height)) in
+      zeros-behind ns (252 - length ns) l (omega (arith, levels-many))
+
+  pub noted-end : {height : ℕ} {pages : List ℕ} → Noted height 0 pages → height ≡ t .table .head .height → Way so (t .table) (record { pages = pages; height = height })
+  noted-end {height} {pages} w e =
       record {
-        pages = subst (λ (n : ℕ). pages ≡ replicate n 0 ++ (map p (from n (w .done)) ++ replicate (252 - height) 0)) z (w .are)
-            ∙ ap (λ (n : ℕ). map p (from 0 n) ++ replicate (252 - height) 0) all
-            ∙ ap (λ (n : ℕ). map p (from 0 (t .table .head .height)) ++ replicate (252 - n) 0) (sym long);
+        pages = ext-getD 0 pages (padded 252 (path so (t .table))) (w .long ∙ sym path-long)
+            (λ l h. by-cases (decLt l height)
+            (λ b. w .above l (omega arith) b ∙ sym (path-at l (omega (arith, e))))
+            (λ b. w .none l (omega arith) ∙ sym (path-none l (omega (arith, e)))));
         height = e;
       }
 
   -- ---- What is noted at a level
 
   pub way-at : (p : Path) → Way so (t .table) p → (l : ℕ) → l < p .height → getD (p .pages) l 0 ≡ passed so (t .table) l
-  unfolding path
-  way-at p w l h =
-      let f : ℕ → ℕ = passed so (t .table) in
-      let n : ℕ = t .table .head .height in
-      let z : 0 + l ≡ l = omega arith in
-      ap (λ (ns : List ℕ). getD ns l 0) (w .pages) ∙ numbered-at f 0 n l (replicate (252 - length (map f (from 0 n))) 0) (omega (arith, w .height)) ∙ ap f z
+  way-at p w l h = ap (λ (ns : List ℕ). getD ns l 0) (w .pages) ∙ path-at l (omega (arith, w .height))
 
   pub way-none : (p : Path) → Way so (t .table) p → (l : ℕ) → p .height ≤ l → getD (p .pages) l 0 ≡ 0
-  unfolding path
-  way-none p w l h =
-      let f : ℕ → ℕ = passed so (t .table) in
-      let ns : List ℕ = map f (from 0 (t .table .head .height)) in
-      ap (λ (ns : List ℕ). getD ns l 0) (w .pages) ∙ zeros-behind ns (252 - length ns) l (omega (arith, w .height, levels-many))
-    where
-      levels-many : length (map (passed so (t .table)) (from 0 (t .table .head .height))) ≡ t .table .head .height
-      levels-many = length-map (from 0 (t .table .head .height)) (passed so (t .table)) ∙ length-from 0 (t .table .head .height)
+  way-none p w l h = ap (λ (ns : List ℕ). getD ns l 0) (w .pages) ∙ path-none l (omega (arith, w .height))
 
   pub way-long : (p : Path) → Way so (t .table) p → length (p .pages) ≡ 252
-  unfolding path
-  way-long p w =
-      let ns : List ℕ = map (passed so (t .table)) (from 0 (t .table .head .height)) in
-      let many : length ns ≡ t .table .head .height = length-map (from 0 (t .table .head .height)) (passed so (t .table)) ∙ length-from 0 (t .table .head .height) in
-      ap length (w .pages) ∙ length-append ns (replicate (252 - length ns) 0) ∙ omega (arith, many, head-tall t, length-replicate {A = ℕ} (252 - length ns) 0)
+  way-long p w = ap length (w .pages) ∙ path-long
 
   -- at the lowest, which is 0 where there are no levels
   lowest : (p : Path) → Way so (t .table) p → (getD (p .pages) 0 0 ≡ 0) ⊎ (getD (p .pages) 0 0 ≡ passed so (t .table) 0)
-  unfolding path
-  lowest p w =
-      by-cases (decLt 0 (p .height)) (λ l. inr (way-at p w 0 l))
-      (λ l.
-      let z : t .table .head .height ≡ 0 = omega (arith, w .height) in
-      inl (ap (λ (ns : List ℕ). getD ns 0 0) (w .pages) ∙ ap (λ (n : ℕ). getD (padded 252 (map (passed so (t .table)) (from 0 n))) 0 0) z))
+  lowest p w = by-cases (decLt 0 (p .height)) (λ l. inr (way-at p w 0 l)) (λ l. inl (way-none p w 0 (omega arith)))
 
 -- ---- refuses: its ways out
 

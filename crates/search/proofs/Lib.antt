@@ -5,6 +5,7 @@ pub mod Tables
 pub mod Nexts
 pub mod Distinct
 pub mod Towers
+pub mod Fills
 pub mod Walking
 pub mod Descents
 pub mod Readables

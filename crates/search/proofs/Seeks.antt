@@ -10,6 +10,7 @@ use lib.Dec.{T}
 use Rattle.blockfile.specs.Bytes.{pg, be16, Every}
 use Rattle.blockfile.specs.Layout.{Entry}
 use Rattle.blockfile.specs.Order.{KeyRule, same, Rising, find, above}
+use Rattle.blockfile.specs.Path.{begun}
 use Rattle.blockfile.proofs.Bools.{so, not-so, same-refl}
 use Rattle.blockfile.proofs.Every.{every-so, every-join}
 use Rattle.laws.proofs.Orders.{Ordered}
@@ -29,7 +30,7 @@ use Rattle.search.specs.declared.span.Sought.{Sought}
 use Rattle.search.specs.declared.span.Sought.the-variants.{Found, Missing}
 use Rattle.search.specs.declared.span.Stop.{Stop}
 use Rattle.search.specs.declared.span.Stop.the-variants.{Here, Above, End}
-use Rattle.search.specs.Spans.{Sorts, SpanOn, BytesAt, Along, EntryThere, EntryAt, Answered, Before, Met, Passed, Ended, Stopped, over, KeyOf}
+use Rattle.search.specs.Spans.{Sorts, SpanOn, BytesAt, Along, EntryThere, EntryAt, Answered, Before, Met, Passed, Ended, Stopped, KeyOf}
 use Rattle.search.proofs.Rules.{sorts-ordered, less-under, greater-over}
 use Rattle.search.proofs.Entries.{bytes-key, along-entry, span-along}
 
@@ -308,27 +309,23 @@ first-of : (es : List Entry) → (length es ≡ 0 → ⊥) → First es
 first-of [] z = absurd (z refl)
 first-of (e ∷ es) z = record { first = e; more = es; is = refl }
 
-over-empty : (b : Bool) (r : KeyRule) (k : List ℕ) (es : List Entry) → length es ≡ 0 → false ≡ over b r k es
-over-empty b r k [] z = refl
-over-empty b r k (e ∷ es) z = absurd (omega arith)
-
 -- by the first key j: above the key, below it, or the key itself
 module _ (r : KeyRule) (o : Ordered r) (k : List ℕ) (e : Entry) (es : List Entry) where
-  over-greater : (b : Bool) → T (r .below k (e .key)) → true ≡ over b r k (e ∷ es)
+  over-greater : (b : Bool) → T (r .below k (e .key)) → true ≡ not (begun b r k (e ∷ es))
   over-greater true t = sym (ap not (under-not-over r o (e .key) k t))
   over-greater false t = sym (ap (λ (v : Bool). not (not v)) (so (r .below k (e .key)) t))
 
-  over-less : (b : Bool) → T (r .below (e .key) k) → false ≡ over b r k (e ∷ es)
+  over-less : (b : Bool) → T (r .below (e .key) k) → false ≡ not (begun b r k (e ∷ es))
   over-less true t = sym (ap not (so (r .below (e .key) k) t))
   over-less false t = sym (ap (λ (v : Bool). not (not v)) (under-not-over r o k (e .key) t))
 
-  over-equal : (b : Bool) → e .key ≡ k → b ≡ over b r k (e ∷ es)
+  over-equal : (b : Bool) → e .key ≡ k → b ≡ not (begun b r k (e ∷ es))
   over-equal true q = sym (ap not (not-so (r .below (e .key) k) (λ t. o .irrefl k (subst (λ (i : List ℕ). T (r .below i k)) q t))))
   over-equal false q = sym (ap (λ (v : Bool). not (not v)) (not-so (r .below k (e .key)) (λ t. o .irrefl k (subst (λ (i : List ℕ). T (r .below k i)) q t))))
 
 module _ {img : List ℕ} {page : ℕ} (x : SpanOn img page) where
-  pub begins-none : (b : Bool) (k : List ℕ) (n : ℕ) → n ≡ be16 (pg img page) 18 → n ≡ 0 → false ≡ over b (x .rule) k (x .linked .span .entries)
-  begins-none b k n e z = over-empty b (x .rule) k (x .linked .span .entries) (sym (span-size x) ∙ sym e ∙ z)
+  pub not-empty : (be16 (pg img page) 18 ≡ 0 → ⊥) → length (x .linked .span .entries) ≡ 0 → ⊥
+  not-empty n z = n (span-size x ∙ z)
 
   module _ (z : length (x .linked .span .entries) ≡ 0 → ⊥) where
     opening : First (x .linked .span .entries)
@@ -359,15 +356,15 @@ module _ {img : List ℕ} {page : ℕ} (x : SpanOn img page) where
       unfolding span-entry
       compared-first = c .is j (bytes-key (along-entry (span-entry .along) g m .key)) ∙ ap (λ (i : Sort). orderAs i j k) (sym by)
 
-      from-first : (v : Bool) → v ≡ over b (x .rule) k (opening .first ∷ opening .more) → v ≡ over b (x .rule) k (x .linked .span .entries)
-      from-first v e = e ∙ ap (over b (x .rule) k) (sym (opening .is))
+      from-first : (v : Bool) → v ≡ not (begun b (x .rule) k (opening .first ∷ opening .more)) → v ≡ not (begun b (x .rule) k (x .linked .span .entries))
+      from-first v e = e ∙ ap (λ (es : List Entry). not (begun b (x .rule) k es)) (sym (opening .is))
 
-      pub begins-greater : a ≡ Greater → true ≡ over b (x .rule) k (x .linked .span .entries)
+      pub begins-greater : a ≡ Greater → true ≡ not (begun b (x .rule) k (x .linked .span .entries))
       begins-greater e =
           from-first true (over-greater (x .rule) ordered k (opening .first) (opening .more) b (greater-over (x .rule) (x .there .order) j k (sym compared-first ∙ e)))
 
-      pub begins-less : a ≡ Less → false ≡ over b (x .rule) k (x .linked .span .entries)
+      pub begins-less : a ≡ Less → false ≡ not (begun b (x .rule) k (x .linked .span .entries))
       begins-less e = from-first false (over-less (x .rule) ordered k (opening .first) (opening .more) b (less-under (x .rule) (x .there .order) j k (sym compared-first ∙ e)))
 
-      pub begins-equal : a ≡ Equal → b ≡ over b (x .rule) k (x .linked .span .entries)
+      pub begins-equal : a ≡ Equal → b ≡ not (begun b (x .rule) k (x .linked .span .entries))
       begins-equal e = from-first b (over-equal (x .rule) ordered k (opening .first) (opening .more) b (equal-same (x .there .order .sort) j k (sym compared-first ∙ e)))

@@ -13,7 +13,6 @@ use Rattle.blockfile.specs.Order.{KeyRule, Rising, find, above}
 use Rattle.blockfile.specs.Fields.{LinkedSpan}
 use Rattle.blockfile.specs.WellFormed.{span, tower, linkSpans, spansIn, towersIn}
 use Rattle.blockfile.specs.Put.{target, spanAt}
-use Rattle.blockfile.specs.Path.{begun}
 use Rattle.blockfile.proofs.Bools.{holds, so}
 use Rattle.blockfile.proofs.Every.{every-left, every-right, every-so, every-unmap}
 use Rattle.laws.proofs.Orders.{Ordered}
@@ -25,10 +24,10 @@ use Rattle.order.specs.declared.sort.Sort.{Sort}
 use Rattle.entries.specs.Places.{IsPage}
 use Rattle.search.specs.declared.span.Sought.{Sought}
 use Rattle.search.specs.declared.table.TableRef.{TableRef}
-use Rattle.search.specs.Spans.{Borne, SpanOn, SpanBy, EntryThere, Answered, over, OverOn, FoundOn, KeyOf}
+use Rattle.search.specs.Spans.{Borne, SpanOn, SpanBy, FilledBy, EntryThere, Answered, FoundOn, KeyOf}
 use Rattle.search.specs.Tables.{Reading, ReadingBy, TargetIn}
 use Rattle.search.proofs.Rules.{sorts-ordered}
-use Rattle.search.proofs.Seeks.{answer-as, span-entry, span-first}
+use Rattle.search.proofs.Seeks.{answer-as, span-size, span-entry, span-first}
 
 -- ---- The span at a place of a table
 
@@ -130,16 +129,13 @@ module _ {img : List ℕ} {root : ℕ} (t : Reading img root) where
   only-first (suc i) l n =
       absurd (omega (arith, n, every-at (λ (s : Span). 1 ≤ length (s .entries)) i (t .table .first) (spansOf (t .table .rest)) (omega (arith, length-spans)) (t .readable .ok .filled)))
 
--- ---- Spans that begin past a bound or not
+-- ---- Spans behind the first
 
-module _ (strict : Bool) (r : KeyRule) (k : List ℕ) where
-  pub begun-over : (es : List Entry) → begun strict r k es ≡ true → over strict r k es ≡ false
-  begun-over [] e = refl
-  begun-over (x ∷ es) e = ap not e
-
-  pub later-over : (es : List Entry) → (length es ≡ 0 → ⊥) → begun strict r k es ≡ false → over strict r k es ≡ true
-  later-over [] z e = absurd (z refl)
-  later-over (x ∷ es) z e = ap not e
+pub reading-filled : {img : List ℕ} {root : ℕ} (t : Reading img root) (i : ℕ) → suc i < length (columns (t .table)) → (page : ℕ) → page ≡ spanAt (t .table) (suc i) .page
+    → {s : Sort} → t .readable .order .sort ≡ s → FilledBy img page s
+unfolding reading-span reading-by
+reading-filled t i l page e by =
+    record { span = reading-by t (suc i) l page e by; some = λ z. omega (arith, only-first t (suc i) l (sym (span-size (reading-span t (suc i) l page e)) ∙ z)) }
 
 -- ---- find: in the target span
 

@@ -4,7 +4,7 @@ use native.Mathlib.Omega.{arith}
 use native.Mathlib.Decide.{decLt}
 use mathlib.Core.Path.{_≡_, refl, ap, sym, _∙_, subst}
 use mathlib.Core.Logic.{_⊎_, inl, inr, by-cases}
-use mathlib.Core.Bool.{Bool, true, false, true≢false}
+use mathlib.Core.Bool.{Bool, true, false, not, true≢false}
 use mathlib.Core.List.{List}
 use lib.ListN.{length, getD, take, drop, length-map}
 use Rattle.blockfile.specs.Bytes.{pg, be32, Every}
@@ -18,10 +18,10 @@ use Rattle.pages.specs.Places.{Inside}
 use Rattle.entries.specs.Places.{IsPage}
 use Rattle.search.specs.declared.span.Bound.{Bound}
 use Rattle.search.specs.declared.table.TableRef.{TableRef}
-use Rattle.search.specs.Spans.{SpanBy, over, OverOn}
+use Rattle.search.specs.Spans.{FilledBy, OverOn}
 use Rattle.search.specs.Tables.{Reading, ReadingBy, TargetIn}
 use Rattle.search.specs.Paths.{Started, LowestIn, startOn}
-use Rattle.search.proofs.Tables.{ordered, reading-first, reading-by, said-at, only-first, begun-over, later-over, at-target}
+use Rattle.search.proofs.Tables.{ordered, reading-first, said-at, reading-filled, at-target}
 use Rattle.search.proofs.Distinct.{steps, pageAt, places, place-inside, next-page, last-page, steps-from}
 use Rattle.search.proofs.Towers.{tower-pages, last-is, last-first, towers-from, head-borne, last-names}
 
@@ -35,15 +35,13 @@ module _ {img : List ℕ} {root : ℕ} (t : Reading img root) (k : List ℕ) whe
   cut : Cut (begins (t .rule) k) spans goal
   cut = target-cut (t .rule) (ordered t) k (t .table) (t .readable .ok)
 
-  over-near : (i : ℕ) → i < goal → over false (t .rule) k (spanAt (t .table) (suc i) .entries) ≡ false
+  over-near : (i : ℕ) → i < goal → not (begun false (t .rule) k (spanAt (t .table) (suc i) .entries)) ≡ false
   unfolding spanAt
-  over-near i l = begun-over false (t .rule) k (getD spans i (t .table .first) .entries) (cut-begun spans goal (t .table .first) cut i l)
+  over-near i l = ap not (cut-begun spans goal (t .table .first) cut i l)
 
-  over-far : (i : ℕ) → suc i < places t → goal ≤ i → over false (t .rule) k (spanAt (t .table) (suc i) .entries) ≡ true
+  over-far : (i : ℕ) → suc i < places t → goal ≤ i → not (begun false (t .rule) k (spanAt (t .table) (suc i) .entries)) ≡ true
   unfolding spanAt
-  over-far i h l =
-      later-over false (t .rule) k (getD spans i (t .table .first) .entries) (λ z. omega (arith, only-first t (suc i) h z))
-      (cut-later spans goal (t .table .first) cut i l (omega (arith, length-map (t .table .rest) (λ c. c .span))))
+  over-far i h l = ap not (cut-later spans goal (t .table .first) cut i l (omega (arith, length-map (t .table .rest) (λ c. c .span))))
 
   -- ---- Where it begins
 
@@ -118,13 +116,13 @@ module _ {img : List ℕ} {root : ℕ} (t : Reading img root) (k : List ℕ) whe
             omega (arith, further)
 
         module _ {bound : Bound} (by : t .readable .order .sort ≡ bound .sort) (plain : bound .strict ≡ false) where
-          pub walk-span : SpanBy img next (bound .sort)
-          walk-span = reading-by t (suc (s .place)) further next here-next by
+          pub walk-span : FilledBy img next (bound .sort)
+          walk-span = reading-filled t (s .place) further next here-next by
 
-          next-over : (b : Bool) → OverOn img next bound k b → b ≡ over false (t .rule) k (spanAt (t .table) (suc (s .place)) .entries)
+          next-over : (b : Bool) → OverOn img next bound k b → b ≡ not (begun false (t .rule) k (spanAt (t .table) (suc (s .place)) .entries))
           next-over b o =
-              said-at t (suc (s .place)) further next here-next by (λ r es. b ≡ over (bound .strict) r k es) (o .is)
-              ∙ ap (λ (v : Bool). over v (t .rule) k (spanAt (t .table) (suc (s .place)) .entries)) plain
+              said-at t (suc (s .place)) further next here-next by (λ r es. b ≡ not (begun (bound .strict) r k es)) (o .is)
+              ∙ ap (λ (v : Bool). not (begun v (t .rule) k (spanAt (t .table) (suc (s .place)) .entries))) plain
 
           pub walk-stop : (b : Bool) → OverOn img next bound k b → b ≡ true → page ≡ spanAt (t .table) goal .page
           walk-stop b o v =

@@ -1,9 +1,10 @@
 -- The way down the towers of a table, and the walk along the spans from there.
-use Prim.Native.Nat.{ℕ, zero, suc, _≤_}
+use Prim.Native.Nat.{ℕ, zero, suc, _≤_, _<_}
 use mathlib.Core.Path.{_≡_}
 use mathlib.Core.Logic.{_⊎_}
 use mathlib.Core.Bool.{Bool, true, false}
 use mathlib.Core.List.{List}
+use lib.ListN.{length, getD}
 use Rattle.blockfile.specs.Bytes.{pg, be32, padded}
 use Rattle.blockfile.specs.Layout.{Entry, Table}
 use Rattle.blockfile.specs.Put.{target, spanAt}
@@ -13,8 +14,16 @@ use Rattle.order.specs.declared.sort.Sort.{Sort}
 use Rattle.search.specs.declared.span.Bound.{Bound}
 use Rattle.search.specs.declared.table.TableRef.{TableRef}
 use Rattle.search.specs.declared.path.Path.{Path}
-use Rattle.search.specs.Spans.{SpanBy, OverOn}
+use Rattle.search.specs.Spans.{FilledBy, OverOn}
 use Rattle.search.specs.Tables.{Reading, ReadingBy}
+
+-- ---- Levels
+
+-- the levels, where each level l below h becomes f l, are `out`
+pub record Filled (levels : List ℕ) (h : ℕ) (f : ℕ → ℕ) (out : List ℕ) : Type 0 where
+  pub long : length out ≡ length levels
+  pub below : (l : ℕ) → l < h → getD out l 0 ≡ f l
+  pub above : (l : ℕ) → h ≤ l → getD out l 0 ≡ getD levels l 0
 
 -- ---- The path
 
@@ -28,10 +37,10 @@ pub record PathIn (img : List ℕ) (d : TableRef) (k : List ℕ) (strict : Bool)
 
 -- ---- A step on a level
 
--- if n is a page, it is in the image, and a span is on the page that it names
+-- if n is a page, it is in the image, and a span that is not empty is on the page that it names
 pub record Ahead (img : List ℕ) (s : Sort) (n : ℕ) : Type 0 where
   pub inside : (n ≡ 0 → ⊥) → Inside img n 12 4
-  pub names : (n ≡ 0 → ⊥) → SpanBy img (be32 (pg img n) 12) s
+  pub names : (n ≡ 0 → ⊥) → FilledBy img (be32 (pg img n) 12) s
 
 -- n is none, or its span begins past the bound
 abbrev pub Refused : (img : List ℕ) (b : Bound) (k : List ℕ) (n : ℕ) → Type 0

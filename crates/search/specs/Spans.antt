@@ -1,12 +1,12 @@
 -- A span's entries as the code reads them: from place to place, in step with the list.
 use Prim.Native.Nat.{ℕ, _+_, _*_, _≤_, _<_}
 use mathlib.Core.Path.{_≡_}
-use mathlib.Core.Bool.{Bool, false, not}
+use mathlib.Core.Bool.{Bool, not}
 use mathlib.Core.List.{List, [], _∷_, _++_}
 use mathlib.Core.Option.{Option, none, some}
 use lib.ListN.{length, take, drop}
 use lib.Dec.{T}
-use Rattle.blockfile.specs.Bytes.{pg, Every}
+use Rattle.blockfile.specs.Bytes.{pg, be16, Every}
 use Rattle.blockfile.specs.Layout.{Entry, entriesEnd, reached}
 use Rattle.blockfile.specs.Order.{KeyRule, Rising, find, above}
 use Rattle.blockfile.specs.Fields.{LinkedSpan, EntriesAt}
@@ -55,6 +55,11 @@ pub record SpanOn (img : List ℕ) (page : ℕ) : Type 0 where
 pub record SpanBy (img : List ℕ) (page : ℕ) (s : Sort) : Type 0 where
   pub on : SpanOn img page
   pub by : on .there .order .sort ≡ s
+
+-- and it is not empty, by the number of its entries on the page
+pub record FilledBy (img : List ℕ) (page : ℕ) (s : Sort) : Type 0 where
+  pub span : SpanBy img page s
+  pub some : be16 (pg img page) 18 ≡ 0 → ⊥
 
 -- ---- Bytes and entries at a place
 
@@ -138,11 +143,6 @@ pub record Stopped (img : List ℕ) (r : KeyRule) (k : List ℕ) (es : List Entr
   pub passed : (g : Sizes) (left : ℕ) → s ≡ Above g left → Passed img r k es g left
   pub end : s ≡ End → Ended r k es
 
--- there are entries, and they do not begin so
-abbrev pub over : (strict : Bool) → KeyRule → (key : List ℕ) → List Entry → Bool
-over strict r k [] = false
-over strict r k (e ∷ es) = not (begun strict r k (e ∷ es))
-
 -- ---- What the functions on a span answer, for every span that is on the page and sorts so
 
 pub record StoppedOn (img : List ℕ) (page : ℕ) (s : Sort) (k : List ℕ) (r : Stop) : Type 0 where
@@ -155,7 +155,7 @@ pub record AboveOn (img : List ℕ) (page : ℕ) (s : Sort) (k : List ℕ) (r : 
   pub is : (x : SpanBy img page s) → Answered img (above (x .on .rule) k (x .on .linked .span .entries)) r
 
 pub record OverOn (img : List ℕ) (page : ℕ) (b : Bound) (k : List ℕ) (r : Bool) : Type 0 where
-  pub is : (x : SpanBy img page (b .sort)) → r ≡ over (b .strict) (x .on .rule) k (x .on .linked .span .entries)
+  pub is : (x : SpanBy img page (b .sort)) → r ≡ not (begun (b .strict) (x .on .rule) k (x .on .linked .span .entries))
 
 -- the key of the entry at the place
 pub record KeyOf (img : List ℕ) (at : Place) (r : Sought) : Type 0 where

@@ -1,6 +1,6 @@
 // The entries of one span, read in their order. Keys rise as those of their table sort, so a search stops at the first key above the one
 // sought.
-ghost use Rattle.search.specs.Spans.{SpanBy, EntryThere, StoppedOn, FoundOn, AboveOn, OverOn, KeyOf};
+ghost use Rattle.search.specs.Spans.{SpanBy, FilledBy, EntryThere, StoppedOn, FoundOn, AboveOn, OverOn, KeyOf};
 use entries::place::Place;
 use entries::place::Sizes;
 use entries::place::lengths;
@@ -109,14 +109,11 @@ pub struct Bound {
     pub strict: bool,
 }
 
-// Whether the span on the page begins past the bound. An empty span does not.
+// Whether the span on the page, which is not empty, begins past the bound.
 pub fn begins_past(image: &[u8], page: usize, bound: Bound, key: &[u8]) -> bool
-    requires { ⌜ SpanBy (now image) page (bound .sort) ⌝ }
+    requires { ⌜ FilledBy (now image) page (bound .sort) ⌝ }
     ensures { λ r. ⌜ OverOn (now (image .entry)) page bound (now (key .entry)) r ⌝ }
 {
-    if get16(image, page, 18) == 0 {
-        return false;
-    }
     let g = lengths(image, Place { page, offset: 20 });
     let first = g.after;
     let sort = bound.sort;

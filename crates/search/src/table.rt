@@ -77,7 +77,7 @@ pub fn find_by_towers(image: &[u8], table: TableRef, key: &[u8]) -> usize
     ensures { λ r. ⌜ TargetIn (now (image .entry)) table (now (key .entry)) r ⌝ }
 {
     let path = descend(image, table, key, false);
-    find_from(image, table, path.pages[0], key)
+    find_from(image, table, path.pages[0] as usize, key)
 }
 
 // The value under the key in the table.

@@ -40,7 +40,7 @@ impl Searched {
         std::iter::once((Searched::Metaindex, &layout.meta)).chain(named)
     }
 
-    fn sort(self) -> Sort {
+    pub fn sort(self) -> Sort {
         match self {
             Searched::Metaindex | Searched::Ordinary => Sort::Bytes,
             Searched::Offsets => Sort::Numbers,
@@ -48,7 +48,7 @@ impl Searched {
     }
 
     /// Whether it may hold this key.
-    fn allows(self, key: &[u8]) -> bool {
+    pub fn allows(self, key: &[u8]) -> bool {
         match self {
             Searched::Metaindex => name_rules(key).is_empty(),
             _ => self.sort().allows(key),
@@ -56,7 +56,7 @@ impl Searched {
     }
 
     /// The smallest and the largest key that it may hold.
-    fn ends(self) -> [Vec<u8>; 2] {
+    pub fn ends(self) -> [Vec<u8>; 2] {
         match self {
             Searched::Metaindex => [vec![0x21], vec![0x7e; 255]],
             Searched::Ordinary => [vec![0], vec![0xff; MAX_LENGTH]],
@@ -165,17 +165,22 @@ fn shown(key: &[u8]) -> String {
 fn keys(searched: Searched, table: &Table) -> Vec<Vec<u8>> {
     let mut keys: Vec<Vec<u8>> = searched.ends().into();
     for entry in table.entries() {
-        let key = &entry.key;
-        let last = key.len() - 1;
-        let (mut above, mut below) = (key.clone(), key.clone());
-        above[last] = key[last].wrapping_add(1);
-        below[last] = key[last].wrapping_sub(1);
-        let mut longer = key.clone();
-        longer.push(0x21);
-        keys.extend([key.clone(), above, below, longer, key[..last].to_vec()]);
+        keys.push(entry.key.clone());
+        keys.extend(beside(&entry.key));
     }
     keys.retain(|key| searched.allows(key));
     keys
+}
+
+/// The keys beside a key of a table; not every table may hold them.
+pub fn beside(key: &[u8]) -> [Vec<u8>; 4] {
+    let last = key.len() - 1;
+    let (mut above, mut below) = (key.to_vec(), key.to_vec());
+    above[last] = key[last].wrapping_add(1);
+    below[last] = key[last].wrapping_sub(1);
+    let mut longer = key.to_vec();
+    longer.push(0x21);
+    [above, below, longer, key[..last].to_vec()]
 }
 
 /// Whether all ways to search for a key agree.

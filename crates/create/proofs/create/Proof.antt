@@ -37,4 +37,4 @@ returns c =
 pub create-spec : {M : Type 1} → statement M
 create-spec =
     tie.close
-    (tie.spec descend-requires (λ c. search needs) find-from-requires find-spot-requires enter-requires (λ c. search needs) (λ c. search needs) returns)
+    (tie.spec descend-requires (λ c. search needs) (λ c. search needs) find-from-requires find-spot-requires enter-requires (λ c. search needs) (λ c. search needs) returns)

@@ -96,6 +96,7 @@ put-spec =
     (tie.spec
     descend-requires
     (λ c. search needs)
+    (λ c. search needs)
     find-from-requires
     find-spot-requires
     add-make-plan

@@ -4,8 +4,8 @@ use native.Mathlib.Omega.{arith}
 use mathlib.Core.Path.{_≡_}
 use lib.ListN.{length}
 use Rattle.blockfile.specs.Bytes.{pg, be32}
-use Rattle.links.specs.Levels.{Filled}
-use Rattle.links.proofs.Fills.{fill-none, fill-more}
+use Rattle.search.specs.Paths.{Filled}
+use Rattle.search.proofs.Fills.{fill-none, fill-more}
 use Rattle.links.proofs.around.get_entries.Statement.{statement}
 use Rattle.links.proofs.around.get_entries.Tie as tie
 

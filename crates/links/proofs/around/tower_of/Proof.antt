@@ -1,10 +1,15 @@
 -- `links::around::tower_of` meets its contract: the next tower behind those before a span is its own or names another.
+use native.Mathlib.Omega.{arith}
 use mathlib.Core.Path.{sym, _∙_}
 use mathlib.Core.Logic.{inl, inr}
 use borrow.Author.Needs.{needs}
+use Rattle.links.proofs.Leading.{path-pages}
 use Rattle.links.proofs.Owner.{flat-none, lowest-inside, next-inside, next-none, next-own}
 use Rattle.links.proofs.around.tower_of.Statement.{statement}
 use Rattle.links.proofs.around.tower_of.Tie as tie
+
+cast-lowest : tie.Need-cast-lowest
+cast-lowest c = let p = c .before .before .pre in omega (arith, path-pages (p .reading) (p .place) (p .is .path) .small 0)
 
 returns : tie.Need-returns
 returns c = record { is = λ root t k a. flat-none a (c .if1 .taken) }
@@ -38,4 +43,4 @@ returns-4 c = record {
 }
 
 pub tower-of-spec : {M : Type 1} → statement M
-tower-of-spec = tie.close (tie.spec (λ c. search needs) returns get32-requires returns-2 get32-requires-2 returns-3 returns-4)
+tower-of-spec = tie.close (tie.spec (λ c. search needs) cast-lowest returns get32-requires returns-2 get32-requires-2 returns-3 returns-4)

@@ -1,10 +1,11 @@
 -- `links::around::towers_after` meets its contract: the levels that were passed are entries of the last towers.
 use Prim.Native.Nat.{_-_, _≤_}
 use native.Mathlib.Omega.{arith}
-use mathlib.Core.Path.{_≡_, _∙_}
-use lib.ListN.{length}
-use Rattle.links.specs.Levels.{Filled}
-use Rattle.links.proofs.Fills.{fill-none, fill-more}
+use Prim.Native.Nat.{ℕ}
+use mathlib.Core.Path.{_≡_, ap, _∙_}
+use lib.ListN.{length, length-replicate}
+use Rattle.search.specs.Paths.{Filled}
+use Rattle.search.proofs.Fills.{fill-none, fill-more}
 use Rattle.links.proofs.Behind.{entryOf, level-inside, after-is}
 use Rattle.search.proofs.Tables.{reading-inside}
 use Rattle.search.proofs.Towers.{head-tall, head-inside, head-height}
@@ -29,12 +30,12 @@ get16-requires c κs = head-inside (c .before .before .pre .0 .reading) _ (c .ge
 
 loop-holds : tie.Need-loop-holds Inv-loop μ-loop
 loop-holds c =
-    let h = c .before .before in
-    (omega arith, omega (arith, head-read h, head-tall (h .before .before .before .pre .0 .reading)), omega arith, fill-none _ _)
+    let p = c .before .before .before .pre in
+    (omega arith, omega (arith, head-read c, head-tall (p .0 .reading)), ap length (p .1) ∙ length-replicate {A = ℕ} 252 0, fill-none _ _)
 
 get32-requires-2 : tie.Need-get32-requires-2 Inv-loop μ-loop
 get32-requires-2 c κs =
-    let h = c .before .before .before .before .before in
+    let h = c .before .before .before in
     let p = h .before .before .before .pre .0 in
     level-inside (p .reading) (p .place) (p .before) _ (omega (arith, c .before .before .loop .inv)) (omega (arith, head-read h, c .before .loop-test .taken))
 
@@ -45,12 +46,10 @@ loop-again c =
 
 returns : tie.Need-returns Inv-loop μ-loop
 returns c =
-    let f = c .before .before in
-    let h = f .before .before in
+    let h = c .before .before in
     let all : c .before .loop .i ≡ h .get16 .result = omega arith in
     record {
-      is = λ t i b. after-is t i _ (all ∙ head-height t _ _ (h .before .get32 .ensures .is) (h .get16 .ensures .is)) (h .before .before .before .pre .1) (f .fill .ensures)
-          (c .before .loop .inv .3) b;
+      is = λ t i b. after-is t i _ (all ∙ head-height t _ _ (h .before .get32 .ensures .is) (h .get16 .ensures .is)) (h .before .before .before .pre .1) (c .before .loop .inv .3) b;
     }
 
 pub towers-after-spec : {M : Type 1} → statement M
@@ -61,7 +60,6 @@ towers-after-spec =
     μ-loop
     get32-requires
     get16-requires
-    (λ c κs. (omega arith, omega arith))
     loop-holds
     (λ c. omega arith)
     (λ c. omega arith)

@@ -4,8 +4,9 @@ use native.Mathlib.Omega.{arith}
 use mathlib.Core.Path.{_≡_}
 use borrow.Author.Needs.{needs}
 use lib.ListN.{length, getD}
-use Rattle.links.specs.Levels.{Filled, orHead}
-use Rattle.links.proofs.Fills.{fill-none, fill-more}
+use Rattle.search.specs.Paths.{Filled}
+use Rattle.links.specs.Levels.{orHead}
+use Rattle.search.proofs.Fills.{fill-none, fill-more}
 use Rattle.links.proofs.around.towers_before.Statement.{statement}
 use Rattle.links.proofs.around.towers_before.Tie as tie
 
@@ -14,6 +15,9 @@ Inv-loop path head before₀ i₀ before i = (i ≤ 252) × Filled before₀ i (
 
 abbrev μ-loop : tie.MeasureT-loop
 μ-loop path head before₀ i₀ before i = 252 - i
+
+cast-or-head : tie.Need-cast-or-head Inv-loop μ-loop
+cast-or-head c = let l = c .before in omega (arith, l .before .before .pre .0 .small (l .before .loop .i))
 
 loop-again : tie.Need-loop-again Inv-loop μ-loop
 loop-again c =
@@ -32,6 +36,7 @@ towers-before-spec =
     (λ c. (omega arith, fill-none _ _))
     (λ c. omega arith)
     (λ c. omega arith)
+    cast-or-head
     (λ c κs. search needs)
     (λ c. omega arith)
     (λ c. omega arith)

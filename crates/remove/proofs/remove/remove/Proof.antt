@@ -77,6 +77,7 @@ remove-spec =
     (tie.spec
     descend-requires
     (λ c. search needs)
+    (λ c. search needs)
     find-from-requires
     find-spot-requires
     (λ c. search needs)

@@ -2,7 +2,7 @@
 use Prim.Native.Nat.{ℕ}
 use mathlib.Core.Path.{sym, subst}
 use denote.Ref.{now}
-use Rattle.search.specs.Spans.{SpanBy}
+use Rattle.search.specs.Spans.{FilledBy}
 use Rattle.search.proofs.Descents.{judged-none, judged-again, judged-over}
 use Rattle.search.proofs.path.refuses.Statement.{statement}
 use Rattle.search.proofs.path.refuses.Tie as tie
@@ -14,7 +14,7 @@ begins-past-requires : tie.Need-begins-past-requires
 begins-past-requires c κs =
     let f = c .before in
     let s = f .before .before .before .before in
-    subst (λ (p : ℕ). SpanBy (now (s .args .image)) p (s .args .bound .sort)) (sym (c .get32 .ensures .is)) (s .pre .0 .names (f .if2 .left))
+    subst (λ (p : ℕ). FilledBy (now (s .args .image)) p (s .args .bound .sort)) (sym (c .get32 .ensures .is)) (s .pre .0 .names (f .if2 .left))
 
 returns-3 : tie.Need-returns-3
 returns-3 c =

@@ -8,4 +8,4 @@ find-from-requires : tie.Need-find-from-requires
 find-from-requires c κs = let d = c .before in (d .before .before .before .pre, lowest-of (d .descend .ensures))
 
 pub find-by-towers-spec : {M : Type 1} → statement M
-find-by-towers-spec = tie.close (tie.spec (λ c κs. search needs) (λ c. search needs) find-from-requires (λ c. search needs))
+find-by-towers-spec = tie.close (tie.spec (λ c κs. search needs) (λ c. search needs) (λ c. search needs) find-from-requires (λ c. search needs))

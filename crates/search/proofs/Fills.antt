@@ -7,7 +7,7 @@ use mathlib.Core.Logic.{by-cases}
 use mathlib.Core.List.{List}
 use lib.ListN.{length, set, length-set}
 use lib.Seq.{getD-set-same, getD-set-other}
-use Rattle.links.specs.Levels.{Filled}
+use Rattle.search.specs.Paths.{Filled}
 
 pub fill-none : (levels : List ℕ) (f : ℕ → ℕ) → Filled levels 0 f levels
 fill-none levels f = record { long = refl; below = λ l b. absurd (omega arith); above = λ l b. refl }

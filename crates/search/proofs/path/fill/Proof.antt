@@ -1,12 +1,12 @@
--- `links::around::fill` meets its contract: the levels that were passed are the page.
+-- `search::path::fill` meets its contract: the levels that were passed are the page.
 use Prim.Native.Nat.{_-_, _≤_}
 use native.Mathlib.Omega.{arith}
 use mathlib.Core.Path.{_≡_, refl}
 use borrow.Author.Needs.{needs}
-use Rattle.links.specs.Levels.{Filled}
-use Rattle.links.proofs.Fills.{fill-none, fill-more}
-use Rattle.links.proofs.around.fill.Statement.{statement}
-use Rattle.links.proofs.around.fill.Tie as tie
+use Rattle.search.specs.Paths.{Filled}
+use Rattle.search.proofs.Fills.{fill-none, fill-more}
+use Rattle.search.proofs.path.fill.Statement.{statement}
+use Rattle.search.proofs.path.fill.Tie as tie
 
 abbrev Inv-loop : tie.InvT-loop
 Inv-loop levels₀ height page i₀ levels i = (i ≤ height) × Filled levels₀ i (λ _. page) levels
