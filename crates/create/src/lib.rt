@@ -26,7 +26,7 @@ fn enter(
     free: usize,
     change: Change,
     name: &[u8],
-    path: &[u32; 252],
+    path: &[u16; 252],
 ) -> bool
     requires { ⌜ EnterReady (now image) (now scratch) page free change (now name) (now path) ⌝ }
     ensures { λ r. ⌜ Entered (now (image .entry)) page free change (now (name .entry)) (now (path .entry)) r (now (image .exit)) ⌝ }

@@ -73,7 +73,7 @@ fn commit_flat(image: &mut [u8], buffer: &mut [u8], plan: Plan)
 }
 
 // Carries out a plan with a tower. The towers around it are read before anything is written: those before it by the path to the span.
-fn commit_tall(image: &mut [u8], buffer: &mut [u8], plan: Plan, path: &[u32; 252])
+fn commit_tall(image: &mut [u8], buffer: &mut [u8], plan: Plan, path: &[u16; 252])
     requires { ⌜ CommitOn (now image) (now buffer) plan (now path) × (plan .wants .tower ≡ 0 → ⊥) ⌝ }
     ensures { λ _. ⌜ CommittedOn (now (image .entry)) (now (buffer .entry)) plan (now (path .entry)) (now (image .exit)) ⌝ }
 {
@@ -109,7 +109,7 @@ pub fn carry_out(
     change: Change,
     key: &[u8],
     value: &[u8],
-    path: &[u32; 252],
+    path: &[u16; 252],
 )
     requires { ⌜ CarryOn (now image) (now buffer) plan change (now key) (now value) (now path) ⌝ }
     ensures { λ _. ⌜ CarriedOn (now (image .entry)) plan change (now (key .entry)) (now (value .entry)) (now (path .entry)) (now (image .exit)) ⌝ }

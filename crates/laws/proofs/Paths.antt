@@ -9,15 +9,15 @@ use mathlib.Core.Option.{Option, none, some}
 use lib.ListN.{length, getD, take, drop, length-map, length-drop, take-append-drop}
 use lib.Seq.{drop-cons, getD-take, getD-drop, length-take-le}
 use lib.Dec.{T}
-use borrow.Author.Tests.{not-true, not-false}
-use Rattle.blockfile.specs.Bytes.{Every, gather}
+use borrow.Author.Tests.{not-false}
+use Rattle.blockfile.specs.Bytes.{Every}
 use Rattle.blockfile.specs.Layout.{Entry, Span, Tower, Column, Table, columns, spansOf, towersOf, towerIn}
 use Rattle.blockfile.specs.Order.{KeyRule, Rising}
 use Rattle.blockfile.specs.WellFormed.{TableOk}
 use Rattle.blockfile.specs.Put.{begins, lastPlace, target, spanAt, lastAt}
 use Rattle.blockfile.specs.Path.{towersWhere, passed, beginsBelow, begun, towered, lastTower, walkFrom, byTowers}
 use Rattle.blockfile.proofs.Bools.{holds, so, not-so}
-use Rattle.blockfile.proofs.Every.{every-right, every-so}
+use Rattle.blockfile.proofs.Every.{every-right}
 use Rattle.laws.proofs.Orders.{Ordered}
 use Rattle.laws.proofs.Middle.{rising-right}
 use Rattle.laws.proofs.Places.{every-at, entriesIn}

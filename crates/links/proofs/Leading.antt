@@ -22,7 +22,7 @@ use Rattle.search.specs.declared.path.Path.{Path}
 use Rattle.search.specs.Tables.{Reading, ReadingBy}
 use Rattle.search.specs.Paths.{PathIn}
 use Rattle.search.proofs.Tables.{ordered}
-use Rattle.search.proofs.Towers.{last-first, head-tall}
+use Rattle.search.proofs.Towers.{last-first}
 use Rattle.search.proofs.Descents.{way-long, way-at, way-none}
 use Rattle.search.specs.Paths.{Filled}
 use Rattle.links.specs.Levels.{Before, PathAt, Pages, orHead}

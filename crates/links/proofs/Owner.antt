@@ -1,5 +1,5 @@
 -- The tower of a span, by the last towers before it: the next tower is the span's own, or names another span.
-use Prim.Native.Nat.{ℕ, zero, suc, _+_, _*_, _≤_, _<_}
+use Prim.Native.Nat.{ℕ, suc, _+_, _*_, _≤_, _<_}
 use native.Mathlib.Omega.{arith}
 use native.Mathlib.Decide.{decLt}
 use mathlib.Core.Path.{_≡_, refl, ap, sym, _∙_, subst}
@@ -21,7 +21,7 @@ use Rattle.pages.specs.Places.{Inside}
 use Rattle.entries.specs.Places.{IsPage}
 use Rattle.search.specs.Tables.{Reading}
 use Rattle.search.proofs.Distinct.{one-place}
-use Rattle.search.proofs.Towers.{AllBorne, entry-here, towers-from, head-tall, others-from}
+use Rattle.search.proofs.Towers.{AllBorne, entry-here, towers-from, others-from}
 use Rattle.links.specs.Levels.{Preceded, TowerAt}
 use Rattle.links.proofs.Standing.{Stands, next-stands, Own, own-or-not, before-page}
 use Rattle.links.proofs.Behind.{leads}

@@ -1,27 +1,25 @@
 -- Towers in the bytes: where they stand, and the next ones.
 use Prim.Native.Nat.{ℕ, suc, _+_, _*_, _<_}
 use native.Mathlib.Omega.{arith}
-use mathlib.Core.Path.{_≡_, refl, ap, sym, _∙_, subst}
+use mathlib.Core.Path.{_≡_, refl, sym, subst}
 use mathlib.Core.Bool.{Bool, true, false, cond}
 use mathlib.Core.Logic.{_⊎_, inl, inr}
 use mathlib.Core.Option.{Option, none, some}
-use mathlib.Core.List.{List, [], _∷_, _++_, map, append-nil}
+use mathlib.Core.List.{List, [], _∷_, _++_, map}
 use lib.ListN.{length, getD, take, drop}
-use lib.Seq.{take-suc}
 use lib.Dec.{ltb}
 use borrow.Author.Tests.{ltb-true}
 use Rattle.blockfile.specs.Bytes.{pg, be32, Every}
-use Rattle.blockfile.specs.Layout.{Span, Tower, Column, Table, columns, spansOf, towersOf, towerIn}
+use Rattle.blockfile.specs.Layout.{Span, Tower, Column, columns, spansOf, towersOf, towerIn}
 use Rattle.blockfile.specs.Order.{Within}
 use Rattle.blockfile.specs.WellFormed.{tower, nextAt, linkTowers}
 use Rattle.blockfile.specs.Put.{lastAt}
 use Rattle.blockfile.proofs.Every.{every-left}
-use Rattle.laws.proofs.Places.{columnAt, towers-append}
 use Rattle.laws.proofs.Relinks.{towers-cut}
 use Rattle.entries.specs.Places.{IsPage}
 use Rattle.search.specs.Spans.{Borne}
 use Rattle.search.specs.Tables.{Reading}
-use Rattle.search.proofs.Towers.{linked, entry-here, AllBorne, tower-pages, last-is, last-append, all-towers, head-borne}
+use Rattle.search.proofs.Towers.{linked, entry-here, AllBorne, tower-pages, last-is, all-towers, head-borne}
 use Rattle.links.specs.Levels.{Before}
 
 -- ---- Towers in a row
@@ -87,18 +85,6 @@ last-leads img l ds p (c ∷ cs) b h = go (c .tower) b h (λ q. last-leads img l
             → be32 (pg img (lastAt l (cond v (w .page) p) (towersOf cs))) (16 + 4 * l) ≡ nextAt l (towersOf ds)
         by true e k = ih (w .page) (b .1) (entry-here img w (c .span .page) (towersOf (cs ++ ds)) (b .0) l (ltb-true l (w .height) e))
         by false e k = ih p (b .1) k
-
--- ---- The last tower
-
--- of a table, with the tower at one more place
-pub last-with : (t : Table) (i : ℕ) → i < length (columns t) → (l : ℕ)
-    → lastAt l (t .head .page) (towersOf (take (suc i) (columns t))) ≡ lastAt l (lastAt l (t .head .page) (towersOf (take i (columns t)))) (towerIn (columnAt t i .tower))
-last-with t i h l =
-    let p : ℕ = t .head .page in
-    ap (λ (cs : List Column). lastAt l p (towersOf cs)) (take-suc (columns t) i (record { span = t .first; tower = some (t .head) }) h)
-    ∙ ap (lastAt l p) (towers-append (take i (columns t)) (columnAt t i ∷ []))
-    ∙ last-append l p (towersOf (take i (columns t))) (towerIn (columnAt t i .tower) ++ [])
-    ∙ ap (lastAt l (lastAt l p (towersOf (take i (columns t))))) (append-nil (towerIn (columnAt t i .tower)))
 
 -- ---- The towers of a table
 

@@ -33,10 +33,6 @@ pub record PathAt (t : Table) (j : ℕ) (levels : List ℕ) : Type 0 where
   pub before : Before t j (t .head .height) levels
   pub none : (l : ℕ) → t .head .height ≤ l → l < 252 → getD levels l 0 ≡ 0
 
--- the path to a key that belongs in the span on the page: the last towers up to that span
-pub record PathTo (img : List ℕ) (root page : ℕ) (levels : List ℕ) : Type 0 where
-  pub is : (t : Reading img root) (i : ℕ) → SpanAt t page i → PathAt (t .table) (suc i) levels
-
 -- ---- towers_before
 
 -- page numbers, or 0
@@ -48,10 +44,6 @@ pub record Pages (path : List ℕ) : Type 0 where
 abbrev pub orHead : (head page : ℕ) → ℕ
 orHead head zero = head
 orHead head (suc n) = suc n
-
--- the last towers up to the span on the page, at every level
-pub record BeforeIn (img : List ℕ) (root page : ℕ) (levels : List ℕ) : Type 0 where
-  pub is : (t : Reading img root) (i : ℕ) → SpanAt t page i → Before (t .table) (suc i) 252 levels
 
 -- ---- towers_after
 

@@ -16,7 +16,7 @@ fn or_head(head: usize, page: usize) -> usize
 }
 
 // For each level the tower of the path; the head from the path's height on, where it has 0.
-pub fn towers_before(path: &[u32; 252], head: usize, before: &mut [usize; 252])
+pub fn towers_before(path: &[u16; 252], head: usize, before: &mut [usize; 252])
     requires { ⌜ Pages (now path) × (length (now before) ≡ 252) ⌝ }
     ensures { λ _. ⌜ Filled (now (before .entry)) 252 (λ l. orHead head (getD (now (path .entry)) l 0)) (now (before .exit)) ⌝ }
 {
@@ -43,7 +43,7 @@ pub fn towers_after(image: &[u8], root: usize, before: &[usize; 252], after: &mu
 
 // The page of the tower of the span on `page`, 0 if it has none, where the path has the last towers before that span: the next tower is
 // the span's if it names the span. A path without levels is that of a table with no tower but the head.
-pub fn tower_of(image: &[u8], path: &[u32; 252], page: usize) -> usize
+pub fn tower_of(image: &[u8], path: &[u16; 252], page: usize) -> usize
     requires { ⌜ Precedes (now image) page (now path) ⌝ }
     ensures { λ r. ⌜ TowerOn (now (image .entry)) page (now (path .entry)) r ⌝ }
 {

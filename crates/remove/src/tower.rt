@@ -13,7 +13,7 @@ pub struct OwnTower {
 }
 
 // The tower of the span on `page`, where the path has the towers before the span.
-pub fn find_tower(image: &[u8], path: &[u32; 252], page: usize) -> OwnTower
+pub fn find_tower(image: &[u8], path: &[u16; 252], page: usize) -> OwnTower
     requires { ⌜ Precedes (now image) page (now path) ⌝ }
     ensures { λ r. ⌜ FoundTower (now (image .entry)) page (now (path .entry)) r ⌝ }
 {

@@ -45,7 +45,7 @@ fn lower_counts(image: &mut [u8], going: Going, tower: usize)
 }
 
 // Gives the pages back and writes the links around them.
-fn let_go(image: &mut [u8], going: Going, tower: OwnTower, path: &[u32; 252])
+fn let_go(image: &mut [u8], going: Going, tower: OwnTower, path: &[u16; 252])
     requires { ⌜ GoingReady (now image) going tower (now path) ⌝ }
     ensures { λ _. ⌜ LetGo (now (image .entry)) going tower (now (path .entry)) (now (image .exit)) ⌝ }
 {
@@ -60,7 +60,7 @@ fn let_go(image: &mut [u8], going: Going, tower: OwnTower, path: &[u32; 252])
 
 // Unlinks the span on `page` of the table with the skip-list page `root`, and gives it back; `links` is what its page says, and the path
 // has the towers before it.
-pub fn unlink(image: &mut [u8], root: usize, page: usize, links: Links, path: &[u32; 252])
+pub fn unlink(image: &mut [u8], root: usize, page: usize, links: Links, path: &[u16; 252])
     requires { ⌜ UnlinkReady (now image) root page links (now path) ⌝ }
     ensures { λ _. ⌜ Unlinked (now (image .entry)) root page links (now (path .entry)) (now (image .exit)) ⌝ }
 {

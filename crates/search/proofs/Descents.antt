@@ -12,7 +12,7 @@ use lib.Seq.{getD-take, getD-drop, getD-set-same, getD-set-other, ext-getD, leng
 use lib.Dec.{ltb}
 use borrow.Author.Tests.{ltb-true, ltb-false, lt-ltb, le-ltb}
 use Rattle.blockfile.specs.Bytes.{pg, be16, be32, Every, from, padded}
-use Rattle.blockfile.specs.Layout.{Entry, Span, Tower, Column, Table, columns, spansOf, towersOf, towerIn}
+use Rattle.blockfile.specs.Layout.{Entry, Span, Tower, Column, spansOf, towersOf, towerIn}
 use Rattle.blockfile.specs.WellFormed.{tower, nextAt, linkTowers}
 use Rattle.blockfile.specs.Put.{spanAt, lastAt}
 use Rattle.blockfile.specs.Path.{begun, passed, path}

@@ -1,23 +1,20 @@
 -- A table's spans in their order, and the way through `find`.
 use Prim.Native.Nat.{ℕ, zero, suc, _+_, _-_, _≤_, _<_}
 use native.Mathlib.Omega.{arith}
-use mathlib.Core.Path.{_≡_, refl, ap, sym, _∙_, subst}
-use mathlib.Core.Bool.{Bool, true, false, cond, not}
+use mathlib.Core.Path.{_≡_, refl, sym, _∙_, subst}
 use mathlib.Core.List.{List, [], _∷_, _++_, map}
-use lib.ListN.{length, getD, take, drop, length-map, take-append-drop, drop-of-length-le}
-use lib.Seq.{drop-cons}
+use lib.ListN.{length, getD, drop, length-map}
 use lib.Dec.{T}
-use Rattle.blockfile.specs.Bytes.{pg, be32, Every, gather, firstOf}
+use Rattle.blockfile.specs.Bytes.{pg, be32, Every, firstOf}
 use Rattle.blockfile.specs.Layout.{Entry, Span, Table, columns, spansOf, entriesOf, reached}
 use Rattle.blockfile.specs.Order.{KeyRule, Rising, find, above}
 use Rattle.blockfile.specs.Fields.{LinkedSpan}
 use Rattle.blockfile.specs.WellFormed.{span, tower, linkSpans, spansIn, towersIn}
 use Rattle.blockfile.specs.Put.{target, spanAt}
-use Rattle.blockfile.proofs.Bools.{holds, so}
-use Rattle.blockfile.proofs.Every.{every-left, every-right, every-so, every-unmap}
+use Rattle.blockfile.proofs.Every.{every-left, every-right, every-unmap}
 use Rattle.laws.proofs.Orders.{Ordered}
-use Rattle.laws.proofs.Middle.{AllOver, rising-left, rising-right}
-use Rattle.laws.proofs.Places.{gather-append, every-at, entriesBefore, entriesAfter, place-entries}
+use Rattle.laws.proofs.Middle.{rising-left, rising-right}
+use Rattle.laws.proofs.Places.{every-at, entriesBefore, entriesAfter, place-entries}
 use Rattle.laws.proofs.Targets.{Target, target-is, find-at}
 use Rattle.pages.specs.Places.{Inside}
 use Rattle.order.specs.declared.sort.Sort.{Sort}

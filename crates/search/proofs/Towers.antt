@@ -75,11 +75,6 @@ last-is R l p (t ∷ ts) r h = last-is R l (cond (ltb l (t .height)) (t .page) p
     go true = h .0
     go false = r
 
--- in two rows
-pub last-append : (l p : ℕ) (ts us : List Tower) → lastAt l p (ts ++ us) ≡ lastAt l (lastAt l p ts) us
-last-append l p [] us = refl
-last-append l p (t ∷ ts) us = last-append l (cond (ltb l (t .height)) (t .page) p) ts us
-
 -- where no other is higher it is the first, whatever its height
 pub last-first : (l : ℕ) (w : Tower) (ts : List Tower) → lastAt l (w .page) (w ∷ ts) ≡ lastAt l (w .page) ts
 last-first l w ts = ap (λ (p : ℕ). lastAt l p ts) (go (ltb l (w .height)))

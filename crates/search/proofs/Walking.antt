@@ -6,9 +6,9 @@ use mathlib.Core.Path.{_≡_, refl, ap, sym, _∙_, subst}
 use mathlib.Core.Logic.{_⊎_, inl, inr, by-cases}
 use mathlib.Core.Bool.{Bool, true, false, not, true≢false}
 use mathlib.Core.List.{List}
-use lib.ListN.{length, getD, take, drop, length-map}
+use lib.ListN.{take, drop, length-map}
 use Rattle.blockfile.specs.Bytes.{pg, be32, Every}
-use Rattle.blockfile.specs.Layout.{Tower, Span, columns, spansOf, towersOf}
+use Rattle.blockfile.specs.Layout.{Tower, Span, spansOf, towersOf}
 use Rattle.blockfile.specs.Put.{begins, target, spanAt, lastAt}
 use Rattle.blockfile.specs.Path.{begun, passed}
 use Rattle.blockfile.proofs.Every.{every-left}
@@ -19,7 +19,7 @@ use Rattle.entries.specs.Places.{IsPage}
 use Rattle.search.specs.declared.span.Bound.{Bound}
 use Rattle.search.specs.declared.table.TableRef.{TableRef}
 use Rattle.search.specs.Spans.{FilledBy, OverOn}
-use Rattle.search.specs.Tables.{Reading, ReadingBy, TargetIn}
+use Rattle.search.specs.Tables.{Reading, ReadingBy}
 use Rattle.search.specs.Paths.{Started, LowestIn, startOn}
 use Rattle.search.proofs.Tables.{ordered, reading-first, said-at, reading-filled, at-target}
 use Rattle.search.proofs.Distinct.{steps, pageAt, places, place-inside, next-page, last-page, steps-from}

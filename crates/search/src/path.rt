@@ -13,12 +13,12 @@ use pages::read::get32;
 // The tower passed at each level: the last one there whose span begins at the key or below it, the head if there is none. As many levels
 // as the head has are in use, the others are 0.
 pub struct Path {
-    pub pages: [u32; 252],
+    pub pages: [u16; 252],
     pub height: usize,
 }
 
 // The first `height` levels become `page`.
-pub fn fill(levels: &mut [u32; 252], height: usize, page: u32)
+fn fill(levels: &mut [u16; 252], height: usize, page: u16)
     requires { ⌜ (height ≤ 252) × (length (now levels) ≡ 252) ⌝ }
     ensures { λ _. ⌜ Filled (now (levels .entry)) height (λ _. page) (now (levels .exit)) ⌝ }
 {
@@ -58,19 +58,19 @@ pub fn descend(image: &[u8], table: TableRef, key: &[u8], strict: bool) -> Path
     let mut tower = get32(image, root, 12);
     let height = get16(image, tower, 10);
     let mut left = get32(image, root, 20);
-    let mut pages = [0u32; 252];
+    let mut pages = [0u16; 252];
     let mut level = height;
     let mut refused = 0;
     while level != 0 {
         let next = get32(image, tower, 12 + 4 * level);
         if refuses(image, next, refused, bound, key) {
             if get32(image, tower, 16) == next {
-                fill(&mut pages, level, tower as u32);
+                fill(&mut pages, level, tower as u16);
                 return Path { pages, height };
             }
             refused = next;
             level -= 1;
-            pages[level] = tower as u32;
+            pages[level] = tower as u16;
         } else {
             tower = next;
             left -= 1;

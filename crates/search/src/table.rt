@@ -1,9 +1,9 @@
 // Tables: the span where a key belongs, the value under a key, and a table by its name.
+ghost use mathlib.Core.Path.{_≡_};
 ghost use Rattle.blockfile.specs.WellFormed.{Accepted};
+ghost use Rattle.pages.specs.Places.{Inside};
 ghost use Rattle.search.specs.Tables.{ReadingBy, TargetIn, FoundIn, NamedAs};
 ghost use Rattle.search.specs.Paths.{LowestIn, startOn};
-ghost use mathlib.Core.Path.{_≡_};
-ghost use Rattle.pages.specs.Places.{Inside};
 use crate::path::descend;
 use crate::span::Bound;
 use crate::span::Sought;

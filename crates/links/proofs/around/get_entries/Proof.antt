@@ -2,7 +2,6 @@
 use Prim.Native.Nat.{_+_, _*_, _-_, _≤_}
 use native.Mathlib.Omega.{arith}
 use mathlib.Core.Path.{_≡_}
-use lib.ListN.{length}
 use Rattle.blockfile.specs.Bytes.{pg, be32}
 use Rattle.search.specs.Paths.{Filled}
 use Rattle.search.proofs.Fills.{fill-none, fill-more}

@@ -3,7 +3,7 @@ use Prim.Native.Nat.{_-_, _≤_}
 use native.Mathlib.Omega.{arith}
 use mathlib.Core.Path.{_≡_}
 use borrow.Author.Needs.{needs}
-use lib.ListN.{length, getD}
+use lib.ListN.{getD}
 use Rattle.search.specs.Paths.{Filled}
 use Rattle.links.specs.Levels.{orHead}
 use Rattle.search.proofs.Fills.{fill-none, fill-more}

@@ -1,5 +1,5 @@
 -- `search::path::descend` meets its contract: it keeps in step with the towers of every table that has the skip-list page.
-use Prim.Native.Nat.{ℕ, _+_}
+use Prim.Native.Nat.{_+_}
 use native.Mathlib.Omega.{arith}
 use mathlib.Core.Path.{_≡_, refl, sym, _∙_}
 use mathlib.Core.Logic.{inl}
