@@ -1,8 +1,9 @@
 // The search by the towers beside the plain search, in the tables of an accepted image.
-ghost use Prim.Native.Nat.{_<_};
+ghost use Prim.Native.Nat.{_≤_, _<_};
 ghost use lib.ListN.{length};
 ghost use Rattle.blockfile.specs.WellFormed.{Accepted};
 ghost use Rattle.search.specs.Tables.{ReadingBy};
+ghost use Rattle.searches.specs.Fits.{Fits};
 use blockfile::Got;
 use order::sort::Sort;
 use order::sort::sort_of;
@@ -79,6 +80,15 @@ fn compare_beside(image: &[u8], table: TableRef, key: &mut [u8], tally: Tally) -
     }
 }
 
+// Copies the smallest key above the first n bytes of the buffer to its start, and answers its length, if there is one.
+fn copy_above(image: &[u8], table: TableRef, buffer: &mut [u8], n: usize) -> Got
+    requires { ⌜ ReadingBy (now image) table × (n ≤ length (now buffer)) ⌝ }
+    ensures { λ r. ⌜ Fits (length (now (buffer .entry))) r ⌝ }
+{
+    let found = next_key(image, table, &buffer[..n]);
+    hand_over(image, found, buffer)
+}
+
 // For the empty key, which is below all, and for every key of the table and those beside it. Each key is copied to the buffer.
 fn compare_table(image: &[u8], table: TableRef, buffer: &mut [u8], tally: Tally) -> Tally
     requires { ⌜ ReadingBy (now image) table ⌝ }
@@ -89,8 +99,7 @@ fn compare_table(image: &[u8], table: TableRef, buffer: &mut [u8], tally: Tally)
     let mut left = get32(image, root, 16);
     let mut all = compare(image, table, &buffer[..n], tally);
     while left != 0 {
-        let found = next_key(image, TableRef { root, sort }, &buffer[..n]);
-        let Got::Found(m) = hand_over(image, found, buffer) else {
+        let Got::Found(m) = copy_above(image, TableRef { root, sort }, buffer, n) else {
             return all;
         };
         n = m;
@@ -128,8 +137,7 @@ pub fn compare_tables(image: &[u8], name: &mut [u8], buffer: &mut [u8]) -> Tally
     let mut left = get32(image, METAINDEX, 16);
     let mut all = compare_table(image, names, buffer, none);
     while left != 0 {
-        let found = next_key(image, names, &name[..n]);
-        let Got::Found(m) = hand_over(image, found, name) else {
+        let Got::Found(m) = copy_above(image, names, name, n) else {
             return all;
         };
         n = m;

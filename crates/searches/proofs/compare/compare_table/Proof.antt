@@ -1,4 +1,4 @@
--- `searches::compare::compare_table` meets its contract: each key fits the buffer.
+-- `searches::compare::compare_table` meets its contract: the key in the buffer is one of its parts.
 use Prim.Native.Nat.{_≤_}
 use native.Mathlib.Omega.{arith}
 use mathlib.Core.Path.{_≡_, sym, _∙_}
@@ -7,7 +7,7 @@ use lib.ListN.{length}
 use lib.Seq.{length-take-le}
 use Rattle.search.specs.Tables.{ReadingBy}
 use Rattle.search.proofs.Tables.{reading-inside}
-use Rattle.searches.proofs.Comparing.{hands-fit, lent-back, lent-fits}
+use Rattle.searches.proofs.Comparing.{lent-back, lent-fits}
 use Rattle.searches.proofs.compare.compare_table.Statement.{statement}
 use Rattle.searches.proofs.compare.compare_table.Tie as tie
 
@@ -27,45 +27,32 @@ compare-requires c κs = c .before .before .before .before .pre
 loop-holds : tie.Need-loop-holds Inv-loop μ-loop
 loop-holds c = (c .before .before .before .before .before .pre, omega arith, omega arith)
 
-slice-aggregate-next-key : tie.Need-slice-aggregate-next-key Inv-loop μ-loop
-slice-aggregate-next-key c = let v = c .before .before .loop .inv in sym (length-take-le _ _ (v .1))
+copy-above-requires : tie.Need-copy-above-requires Inv-loop μ-loop
+copy-above-requires c κs = let v = c .before .before .loop .inv in (v .0, v .1)
 
-next-key-requires : tie.Need-next-key-requires Inv-loop μ-loop
-next-key-requires c κs = c .before .before .loop .inv .0
+abbrev copied : tie.After-known-told Inv-loop μ-loop → tie.After-copy-above Inv-loop μ-loop
+copied c = c .before .before .before .before .before
 
-hand-over-requires : tie.Need-hand-over-requires Inv-loop μ-loop
-hand-over-requires c κs = let n = c .before in (_, n .next-key .ensures .is (n .before .before .before .loop .inv .0))
-
--- the key that was found fits the buffer
-fits : (c : tie.After-known-told Inv-loop μ-loop) → c .before .m .given .0 .0 ≤ length (c .before .before .before .before .before .hand-over .last .1 .1 .0)
-fits c =
-    let h = c .before .before .before .before .before in
-    let n = h .before .before in
-    omega (
-      arith,
-      hands-fit _ _ _ _ (h .hand-over .ensures _ (n .next-key .ensures .is (n .before .before .before .loop .inv .0))) _ (c .before .m .given .1),
-      h .hand-over .kept .1 .1 .0,
-    )
-
-slice-relend-prefix-compare-beside : tie.Need-slice-relend-prefix-compare-beside Inv-loop μ-loop
-slice-relend-prefix-compare-beside c = fits c
+-- the key fits the buffer
+fits : (c : tie.After-known-told Inv-loop μ-loop) → c .before .m .given .0 .0 ≤ length (copied c .copy-above .last .1 .1 .0)
+fits c = omega (arith, copied c .copy-above .ensures .most _ (c .before .m .given .1), copied c .copy-above .kept .1 .1 .0)
 
 slice-aggregate-compare-beside : tie.Need-slice-aggregate-compare-beside Inv-loop μ-loop
 slice-aggregate-compare-beside c = sym (length-take-le _ _ (fits (c .before)))
 
 compare-beside-requires : tie.Need-compare-beside-requires Inv-loop μ-loop
-compare-beside-requires c κs = c .before .before .before .before .before .before .before .before .before .before .before .loop .inv .0
+compare-beside-requires c κs = copied (c .before) .before .before .before .loop .inv .0
 
 loop-again : tie.Need-loop-again Inv-loop μ-loop
 loop-again c =
-    let k = c .before .before .before .before in
-    let h = k .before .before .before .before .before in
-    let v = h .before .before .before .before .before .loop .inv in
     let b = c .before .before in
+    let k = b .before .before in
+    let h = copied k in
+    let v = h .before .before .before .loop .inv in
     let part = b .compare-beside .last .1 .1 .0 in
-    let old = h .hand-over .last .1 .1 .0 in
+    let old = h .copy-above .last .1 .1 .0 in
     let same = b .compare-beside .kept .1 .1 .0 in
-    (v .0, lent-fits part old _ same (fits k), lent-back part old _ same (fits k) ∙ h .hand-over .kept .1 .1 .0 ∙ v .2)
+    (v .0, lent-fits part old _ same (fits k), lent-back part old _ same (fits k) ∙ h .copy-above .kept .1 .1 .0 ∙ v .2)
 
 pub compare-table-spec : {M : Type 1} → statement M
 compare-table-spec =
@@ -78,15 +65,12 @@ compare-table-spec =
     (λ c. search needs)
     compare-requires
     loop-holds
-    (λ c. omega arith)
-    slice-aggregate-next-key
-    next-key-requires
-    hand-over-requires
+    copy-above-requires
     (λ c. search needs)
     (λ c. search needs)
     (λ c. search needs)
     (λ c. search needs)
-    slice-relend-prefix-compare-beside
+    fits
     slice-aggregate-compare-beside
     compare-beside-requires
     (λ c. omega arith)

@@ -1,4 +1,4 @@
--- `searches::compare::compare_tables` meets its contract: each name fits the buffer.
+-- `searches::compare::compare_tables` meets its contract: the name in the buffer is one of its parts.
 use Prim.Native.Nat.{_≤_}
 use native.Mathlib.Omega.{arith}
 use mathlib.Core.Path.{_≡_, sym, _∙_}
@@ -8,7 +8,6 @@ use lib.Seq.{length-take-le}
 use Rattle.search.specs.Tables.{ReadingBy}
 use Rattle.search.proofs.Readables.{meta-by}
 use Rattle.search.proofs.Tables.{reading-inside}
-use Rattle.searches.proofs.Comparing.{hands-fit}
 use Rattle.searches.proofs.compare.compare_tables.Statement.{statement}
 use Rattle.searches.proofs.compare.compare_tables.Tie as tie
 
@@ -27,48 +26,35 @@ compare-table-requires c κs = let a = c .before .before .before .before .before
 
 loop-holds : tie.Need-loop-holds Inv-loop μ-loop
 loop-holds c =
-    let t = c .before .before in
-    let a = t .before .before .before .before .before .before .pre in
+    let a = c .before .before .before .before .before .before .before .before .pre in
     (meta-by _ (a .0) (a .1), omega arith, omega arith, omega arith)
 
-slice-aggregate-next-key : tie.Need-slice-aggregate-next-key Inv-loop μ-loop
-slice-aggregate-next-key c = sym (length-take-le _ _ (c .before .before .loop .inv .1))
+copy-above-requires : tie.Need-copy-above-requires Inv-loop μ-loop
+copy-above-requires c κs = let v = c .before .before .loop .inv in (v .0, v .1)
 
-next-key-requires : tie.Need-next-key-requires Inv-loop μ-loop
-next-key-requires c κs = c .before .before .loop .inv .0
+abbrev copied : tie.After-known-told Inv-loop μ-loop → tie.After-copy-above Inv-loop μ-loop
+copied c = c .before .before .before .before .before
 
-hand-over-requires : tie.Need-hand-over-requires Inv-loop μ-loop
-hand-over-requires c κs = let n = c .before in (_, n .next-key .ensures .is (n .before .before .before .loop .inv .0))
+abbrev inside : tie.After-copy-above Inv-loop μ-loop → tie.In-loop Inv-loop μ-loop
+inside c = c .before .before
 
--- the name that was found fits its buffer
-fits : (c : tie.After-known-told Inv-loop μ-loop) → c .before .m .given .0 .0 ≤ length (c .before .before .before .before .before .hand-over .last .1 .1 .0)
-fits c =
-    let h = c .before .before .before .before .before in
-    let n = h .before .before in
-    omega (
-      arith,
-      hands-fit _ _ _ _ (h .hand-over .ensures _ (n .next-key .ensures .is (n .before .before .before .loop .inv .0))) _ (c .before .m .given .1),
-      h .hand-over .kept .1 .1 .0,
-    )
-
-slice-reshare-prefix-compare-named : tie.Need-slice-reshare-prefix-compare-named Inv-loop μ-loop
-slice-reshare-prefix-compare-named c = fits c
+-- the name fits its buffer
+fits : (c : tie.After-known-told Inv-loop μ-loop) → c .before .m .given .0 .0 ≤ length (copied c .copy-above .last .1 .1 .0)
+fits c = omega (arith, copied c .copy-above .ensures .most _ (c .before .m .given .1), copied c .copy-above .kept .1 .1 .0)
 
 slice-aggregate-compare-named : tie.Need-slice-aggregate-compare-named Inv-loop μ-loop
 slice-aggregate-compare-named c = sym (length-take-le _ _ (fits (c .before)))
 
 compare-named-requires : tie.Need-compare-named-requires Inv-loop μ-loop
-compare-named-requires c κs =
-    let i = c .before .before .before .before .before .before .before .before .before .before .before .before in
-    i .before .before .before .before .before .before .before .before .before .pre
+compare-named-requires c κs = inside (copied (c .before .before)) .before .before .before .before .before .before .before .before .before .before .pre
 
 loop-again : tie.Need-loop-again Inv-loop μ-loop
 loop-again c =
     let b = c .before .before in
     let k = b .before .before .before in
-    let h = k .before .before .before .before .before in
-    let v = h .before .before .before .before .before .loop .inv in
-    (v .0, fits k, h .hand-over .kept .1 .1 .0 ∙ v .2, b .compare-named .kept .1 .1 .0 ∙ v .3)
+    let h = copied k in
+    let v = inside h .before .loop .inv in
+    (v .0, fits k, h .copy-above .kept .1 .1 .0 ∙ v .2, b .compare-named .kept .1 .1 .0 ∙ v .3)
 
 pub compare-tables-spec : {M : Type 1} → statement M
 compare-tables-spec =
@@ -79,16 +65,13 @@ compare-tables-spec =
     get32-requires
     compare-table-requires
     loop-holds
-    (λ c. omega arith)
-    slice-aggregate-next-key
-    next-key-requires
-    hand-over-requires
+    copy-above-requires
     (λ c. search needs)
     (λ c. search needs)
     (λ c. search needs)
     (λ c. search needs)
     (λ c. search needs)
-    slice-reshare-prefix-compare-named
+    fits
     slice-aggregate-compare-named
     compare-named-requires
     (λ c. omega arith)
