@@ -40,7 +40,7 @@ tests-passed l name legal short e =
     let five = lowest-none (not short, ValueLength) ((noTable l name, NoTable) ∷ []) (four .1) in
     (not-false legal (or-false (badName name) (not legal) (four .0)), not-false short (five .0))
 
-module _ {img s : List ℕ} (lent : Lending img s) {name : List ℕ} {legal short : Bool} {r : Entered} (n : NamedTable img name legal short r) where
+module _ {img s : List ℕ} {free : ℕ} (lent : Lending img s free) {name : List ℕ} {legal short : Bool} {r : Entered} (n : NamedTable img name legal short r) where
   pub named-refused : {op : Op} → OnTable op name legal short → (f : Refusal) → r ≡ Refused f → Changed op img (NotWrote f) img
   named-refused on f e =
       let row : NamedIn (lent .layout) name legal short (Refused f)

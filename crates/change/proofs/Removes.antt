@@ -2,7 +2,7 @@
 use Prim.Native.Nat.{ℕ}
 use mathlib.Core.Path.{_≡_, ap, sym, _∙_}
 use mathlib.Core.List.{List, [], _∷_}
-use mathlib.Core.Bool.{Bool, true, false, not}
+use mathlib.Core.Bool.{Bool, true, not}
 use Rattle.blockfile.specs.declared.Refusal.{Refusal}
 use Rattle.blockfile.specs.declared.Refusal.the-variants.{NoKey}
 use Rattle.blockfile.specs.declared.Wrote.the-variants.{Done, Refused as NotWrote}
@@ -15,6 +15,8 @@ use Rattle.blockfile.specs.Answers.{onTable, outcomeOn}
 use Rattle.blockfile.proofs.Bools.{holds}
 use Rattle.order.specs.declared.sort.Sort.{Sort}
 use Rattle.search.specs.declared.table.TableRef.{TableRef}
+use Rattle.edit.specs.declared.apply.Applied.{Applied}
+use Rattle.edit.specs.declared.apply.Applied.the-variants.{Nothing, Left}
 use Rattle.remove.specs.Removes.{RemoveReady, RemoveDone}
 use Rattle.refusals.specs.declared.table.Entered.{Entered}
 use Rattle.refusals.specs.declared.table.Entered.the-variants.{Refused, Found}
@@ -27,7 +29,7 @@ module _ {name key : List ℕ} {sort : Sort} {legal : Bool} (j : KeyJudged name 
   abbrev remove-on : OnTable (remove name key) name legal true
   remove-on = record { more = λ l room. (not (there (sought l (remove name key))), NoKey) ∷ []; are = λ l room. rw (legal-is j) }
 
-  module _ {img s : List ℕ} (lent : Lending img s) {r : Entered} (n : NamedTable img name legal true r) where
+  module _ {img s : List ℕ} {free : ℕ} (lent : Lending img s free) {r : Entered} (n : NamedTable img name legal true r) where
     pub remove-refused : (f : Refusal) → r ≡ Refused f → Changed (remove name key) img (NotWrote f) img
     remove-refused = named-refused lent n remove-on
 
@@ -41,13 +43,14 @@ module _ {name key : List ℕ} {sort : Sort} {legal : Bool} (j : KeyJudged name 
       abbrev table : TableRef
       table = record { root = page; sort = sort }
 
-      pub remove-ready : RemoveReady img s table key
+      pub remove-ready : RemoveReady img s table free key
       remove-ready =
           record {
             layout = L;
             name = name;
             table = t;
             is = table-at lent n page e (j .sorts);
+            pages = lent .pages;
             allowed = holds _ (sym (legal-is j) ∙ allowed lent n page e .0);
             lent = lent .long;
           }
@@ -56,20 +59,20 @@ module _ {name key : List ℕ} {sort : Sort} {legal : Bool} (j : KeyJudged name 
       looked : sought (ledgerOf L) (remove name key) ≡ find key (entriesOf t)
       looked = ap (find key) (its-map L name t (found lent n page e .1 .found))
 
-      module _ (b : Bool) (new : List ℕ) (d : RemoveDone img table key b new) where
-        pub remove-done : b ≡ true → Changed (remove name key) img Done new
+      module _ (b : Applied) (new : List ℕ) (d : RemoveDone img table free key b new) where
+        pub remove-done : (m : ℕ) → b ≡ Left m → Changed (remove name key) img Done new
         unfolding outcomeOn onTable
-        remove-done q =
-            let f = d .done q L name t (table-at lent n page e (j .sorts)) in
+        remove-done m q =
+            let f = d .done m q L name t (table-at lent n page e (j .sorts)) (lent .pages) in
             record {
               layout = L;
               well = lent .well;
               writes = writesOf L (removePlan L name t key);
               outcome = rw (rows-left remove-on L 0 (found lent n page e .0), looked, f .0 .1, found lent n page e .1 .found);
-              image = f .1;
+              image = f .1 .image;
             }
 
-        pub remove-missing : b ≡ false → Changed (remove name key) img (NotWrote NoKey) new
+        pub remove-missing : b ≡ Nothing → Changed (remove name key) img (NotWrote NoKey) new
         unfolding outcomeOn
         remove-missing q =
             let f = d .missing q L name t (table-at lent n page e (j .sorts)) in

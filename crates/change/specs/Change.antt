@@ -11,16 +11,12 @@ use Rattle.blockfile.specs.Refusals.{Op}
 use Rattle.blockfile.specs.Answers.{outcomeOn}
 use Rattle.blockfile.specs.Calls.{wroteReply}
 
--- the image is well-formed; the scratch is as long as it
-pub record Lending (img scratch : List ℕ) : Type 0 where
+-- the image is well-formed and has this number of free pages; the scratch is as long as it
+pub record Lending (img scratch : List ℕ) (free : ℕ) : Type 0 where
   pub layout : Layout
   pub well : WellFormed img layout
+  pub pages : freeCount (layout .free) ≡ free
   pub long : length scratch ≡ length img
-
--- and the image has this number of free pages
-pub record LendingFree (img scratch : List ℕ) (free : ℕ) : Type 0 where
-  pub lent : Lending img scratch
-  pub pages : freeCount (lent .layout .free) ≡ free
 
 -- the answer is that of the call's outcome on the image's layout, and the image after has the outcome's writes
 pub record Changed (op : Op) (img : List ℕ) (r : Wrote) (out : List ℕ) : Type 0 where

@@ -1,6 +1,6 @@
 // Put, remove and create on an accepted image, where table, key and value are not yet known to be allowed: the rows of the refusal table
 // from 4 on, then the change.
-ghost use Rattle.change.specs.Change.{LendingFree, Changed};
+ghost use Rattle.change.specs.Change.{Lending, Changed};
 ghost use Rattle.change.specs.Request.{opOf};
 use blockfile::Wrote;
 use creating::create_table;
@@ -29,12 +29,12 @@ pub fn change(
     key: &[u8],
     value: &[u8],
 ) -> Wrote
-    requires { ⌜ LendingFree (now image) (now scratch) free ⌝ }
+    requires { ⌜ Lending (now image) (now scratch) free ⌝ }
     ensures { λ r. ⌜ Changed (opOf request (now (name .entry)) (now (key .entry)) (now (value .entry))) (now (image .entry)) r (now (image .exit)) ⌝ }
 {
     match request {
         Request::Put => put_entry(image, scratch, free, name, key, value),
-        Request::Remove => remove_entry(image, scratch, name, key),
+        Request::Remove => remove_entry(image, scratch, free, name, key),
         Request::Create => create_table(image, scratch, free, name),
     }
 }

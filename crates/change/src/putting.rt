@@ -1,8 +1,9 @@
 // Put on an accepted image: the refusals 4 to 6 and 10, and the change.
 ghost use Rattle.blockfile.specs.Refusals.{put};
-ghost use Rattle.change.specs.Change.{LendingFree, Changed};
+ghost use Rattle.change.specs.Change.{Lending, Changed};
 use blockfile::Refusal;
 use blockfile::Wrote;
+use edit::apply::Applied;
 use edit::put::put;
 use order::sort::sort_of;
 use refusals::legal::is_key;
@@ -21,7 +22,7 @@ pub fn put_entry(
     key: &[u8],
     value: &[u8],
 ) -> Wrote
-    requires { ⌜ LendingFree (now image) (now scratch) free ⌝ }
+    requires { ⌜ Lending (now image) (now scratch) free ⌝ }
     ensures { λ r. ⌜ Changed (put (now (name .entry)) (now (key .entry)) (now (value .entry))) (now (image .entry)) r (now (image .exit)) ⌝ }
 {
     let sort = sort_of(name);
@@ -29,9 +30,9 @@ pub fn put_entry(
         Entered::Refused(why) => Wrote::Refused(why),
         Entered::Found(page) => {
             let table = TableRef { root: page, sort };
-            if !put(image, scratch, table, free, key, value) {
+            let Applied::Left(_) = put(image, scratch, table, free, key, value) else {
                 return Wrote::Refused(Refusal::NoRoom);
-            }
+            };
             Wrote::Done
         }
     }

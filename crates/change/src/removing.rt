@@ -3,6 +3,7 @@ ghost use Rattle.blockfile.specs.Refusals.{remove};
 ghost use Rattle.change.specs.Change.{Lending, Changed};
 use blockfile::Refusal;
 use blockfile::Wrote;
+use edit::apply::Applied;
 use order::sort::sort_of;
 use refusals::legal::is_key;
 use refusals::table::Entered;
@@ -10,9 +11,16 @@ use refusals::table::named_table;
 use remove::remove::remove;
 use search::table::TableRef;
 
-// Removes the key from the table of the name. Of the scratch, which is as long as the image, nothing is kept.
-pub fn remove_entry(image: &mut [u8], scratch: &mut [u8], name: &[u8], key: &[u8]) -> Wrote
-    requires { ⌜ Lending (now image) (now scratch) ⌝ }
+// Removes the key from the table of the name. `free` is the number of free pages; of the scratch, which is as long as the image,
+// nothing is kept.
+pub fn remove_entry(
+    image: &mut [u8],
+    scratch: &mut [u8],
+    free: usize,
+    name: &[u8],
+    key: &[u8],
+) -> Wrote
+    requires { ⌜ Lending (now image) (now scratch) free ⌝ }
     ensures { λ r. ⌜ Changed (remove (now (name .entry)) (now (key .entry))) (now (image .entry)) r (now (image .exit)) ⌝ }
 {
     let sort = sort_of(name);
@@ -20,9 +28,9 @@ pub fn remove_entry(image: &mut [u8], scratch: &mut [u8], name: &[u8], key: &[u8
         Entered::Refused(why) => Wrote::Refused(why),
         Entered::Found(page) => {
             let table = TableRef { root: page, sort };
-            if !remove(image, scratch, table, key) {
+            let Applied::Left(_) = remove(image, scratch, table, free, key) else {
                 return Wrote::Refused(Refusal::NoKey);
-            }
+            };
             Wrote::Done
         }
     }

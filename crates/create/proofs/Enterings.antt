@@ -2,7 +2,6 @@
 use Prim.Native.Nat.{ℕ, suc, _+_, _*_, _-_, _/_, _≤_, _<_}
 use native.Mathlib.Omega.{arith}
 use mathlib.Core.Path.{_≡_, refl, ap, sym, _∙_, subst}
-use mathlib.Core.Bool.{true, false, true≢false}
 use mathlib.Core.List.{List, [], _∷_, _++_, append-assoc}
 use mathlib.Core.Option.{none, Option·map}
 use lib.ListN.{length, getD, replicate}
@@ -17,6 +16,7 @@ use Rattle.blockfile.specs.Put.{target, spanAt, parts, wantedBy, Edited, rewrit
 use Rattle.blockfile.specs.Create.{newTable, wholeTable, metaWith, createPlan}
 use Rattle.laws.specs.FreeList.{FreeList}
 use Rattle.laws.proofs.Numbers.{length-word32}
+use Rattle.laws.proofs.Draws.{left-drawn}
 use Rattle.laws.proofs.Orders.{names-ordered}
 use Rattle.laws.proofs.Middle.{find-under}
 use Rattle.laws.proofs.Grows.{new-wanted}
@@ -26,6 +26,7 @@ use Rattle.laws.proofs.Fitting.{names-short}
 use Rattle.pages.specs.Taking.{Ahead, TakenAfter}
 use Rattle.draw.proofs.Hands.{shown}
 use Rattle.stage.specs.declared.change.Change.{Change}
+use Rattle.edit.specs.declared.apply.Applied.the-variants.{Nothing, Left}
 use Rattle.edit.specs.declared.plan.Plan.{Plan}
 use Rattle.edit.specs.Shapes.{ContsReady, ContsCounted}
 use Rattle.edit.specs.Makes.{PlanReady, PlanFor}
@@ -35,6 +36,7 @@ use Rattle.edit.specs.Rewrites.{changed, RewriteOf, Carries, CarryOn, CarriedOn
 use Rattle.edit.proofs.Stands.{besides, in-hand, columns-few}
 use Rattle.edit.proofs.Committing.{plan-total}
 use Rattle.edit.proofs.Rewritings.{table-at, all-few, plan-is, conts-ready, counted, conts-near, span-near, tower-near}
+use Rattle.edit.proofs.Puttings.{told, not-left}
 use Rattle.create.specs.declared.table.NewTable.{NewTable}
 use Rattle.create.specs.Tables.{TableFor}
 use Rattle.create.specs.Creates.{Outcome, Enters, EnterReady, Entered}
@@ -103,11 +105,11 @@ module _ {img : List ℕ} {page free : ℕ} {c : Change} {name path : List ℕ} 
       pub all-used : n ≤ wantedOf x
       all-used = omega (arith, old-is, wanted-is, new-wanted nameRule names-ordered (L .meta) (e .none .well .metaOk) name (word32 0) absent)
 
-      pub not-enough : n + free < wantedOf x + 3 → Outcome img L name false img
+      pub not-enough : n + free < wantedOf x + 3 → Outcome img L name Nothing img
       unfolding lacks createPlan
       not-enough l =
           record {
-            done = λ a. absurd (true≢false (sym a));
+            done = λ b a. absurd (not-left a);
             refused = λ a. (lt-ltb (length old + freeCount (L .free)) (w + 3) (omega (arith, old-is, wanted-is, e .none .pages)), refl);
           }
 
@@ -182,18 +184,23 @@ module _ {img : List ℕ} {page free : ℕ} {c : Change} {name path : List ℕ} 
                 ap (λ (m : ℕ). draw old m [] (L .free)) k
 
             pub all-done : 1024 * x .base ≡ length img → (img1 : List ℕ) → CarriedOn img x c name v path img1 → (out : List ℕ)
-                → out ≡ apply (wholeTable (newTable (t .most) (t .root) (t .span) (t .head))) img1 → Outcome img L name true out
+                → out ≡ apply (wholeTable (newTable (t .most) (t .root) (t .span) (t .head))) img1 → Outcome img L name (Left (n + free - (wantedOf x + 3))) out
             unfolding lacks writesOf createPlan
             all-done k img1 d out g =
                 record {
-                  done = λ a. (
+                  done = λ b a. (
                     le-ltb (length old + freeCount (L .free)) (w + 3) room,
-                    g
-                        ∙ (λ j. apply (wholeTable (made-is j)) (entered j))
-                        ∙ sym (apply-append (drawn .writes ++ named .writes) (wholeTable made) img)
-                        ∙ ap (λ (ws : List Write). apply ws img) (append-assoc (drawn .writes) (named .writes) (wholeTable made)),
+                    told
+                        (record {
+                          image = g
+                              ∙ (λ j. apply (wholeTable (made-is j)) (entered j))
+                              ∙ sym (apply-append (drawn .writes ++ named .writes) (wholeTable made) img)
+                              ∙ ap (λ (ws : List Write). apply ws img) (append-assoc (drawn .writes) (named .writes) (wholeTable made));
+                          left = omega (arith, old-is, wanted-is, e .none .pages, left-drawn old (w + 3) [] (L .free) room);
+                        })
+                        a,
                   );
-                  refused = λ a. absurd (true≢false a);
+                  refused = λ a. absurd (not-left (sym a));
                 }
               where
                 named : Edited
@@ -243,10 +250,10 @@ stored-word r = refl
 
 module _ {img : List ℕ} {page free : ℕ} {c : Change} {name path : List ℕ} {base : ℕ} {x : Plan} (q : PlanFor img 2 page c (length name + 4) 3 base x)
     (n : ℕ) (m : ContsCounted img page n) where
-  pub no-room : n + free < wantedOf x + 3 → Entered img page free c name path false img
+  pub no-room : n + free < wantedOf x + 3 → Entered img page free c name path Nothing img
   no-room l = record { is = λ L e. not-enough e q n m l }
 
   pub entered : wantedOf x + 3 ≤ n + free → 1024 * x .base ≡ length img → (t : NewTable) → TableFor img (wantedOf x - n) t → (v : List ℕ) → v ≡ word32 (t .root)
       → (img1 : List ℕ) → CarriedOn img x c name v path img1 → (out : List ℕ) → out ≡ apply (wholeTable (newTable (t .most) (t .root) (t .span) (t .head))) img1
-      → Entered img page free c name path true out
+      → Entered img page free c name path (Left (n + free - (wantedOf x + 3))) out
   entered l k t f v s img1 d out g = record { is = λ L e. all-done e q n m l t f v s k img1 d out g }

@@ -5,7 +5,7 @@ use native.Mathlib.Decide.{decLt}
 use mathlib.Core.Path.{_≡_, ap, sym, _∙_, subst}
 use mathlib.Core.Logic.{by-cases}
 use mathlib.Core.List.{List, [], _++_, map, append-nil}
-use lib.ListN.{length, take, drop, length-take, take-append-drop, drop-of-length-le}
+use lib.ListN.{length, take, drop, length-take, length-drop, take-append-drop, drop-of-length-le}
 use Rattle.blockfile.specs.Bytes.{pg, apply, Every}
 use Rattle.blockfile.specs.Fields.{Numbers, AreConts}
 use Rattle.blockfile.specs.WellFormed.{count}
@@ -140,11 +140,12 @@ module _ {img : List ℕ} {start wanted : ℕ} {numbers : List ℕ} {at : ℕ} {
           e ∙ ap (apply (giveMany left (others .free) .writes)) took-image ∙ sym (apply-append (others .writes) (giveMany left (others .free) .writes) img)
           ∙ ap (λ (l : List ℕ). apply (others .writes ++ giveMany l (others .free) .writes) img) (sym (append-nil left))
 
-    pub drew : {out : List ℕ} → 4 * (at + wanted) ≤ length numbers → GaveChain out₁ (r .next) out → Drew img start wanted numbers at out list₁
+    pub drew : {n : ℕ} {out : List ℕ} → 4 * (at + wanted) ≤ length numbers → GaveChain out₁ (r .next) n out → Drew img start wanted numbers at n out list₁
     unfolding left-chained
-    drew {out} room gave =
+    drew {n} {out} room gave =
         record {
           image = λ d. drawn-image d out (gave .image (left-chained d));
           listed = drawn-list;
           stand = λ d. drawn-stand d room;
+          given = λ d. gave .given (left-chained d) ∙ length-drop wanted (d .chain .old);
         }

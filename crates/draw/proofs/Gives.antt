@@ -24,7 +24,7 @@ use Rattle.laws.proofs.Draws.{give-one, few-given}
 use Rattle.pages.specs.Places.{Inside}
 use Rattle.pages.specs.Taking.{Giveable, Gave}
 use Rattle.draw.specs.Hands.{InHand, Chained, GaveChain}
-use Rattle.draw.proofs.Hands.{shown, hand-pages}
+use Rattle.draw.proofs.Hands.{shown, hand-pages, hand-few}
 use Rattle.draw.proofs.Chains.{first-some, chain-inside, pagesFrom, chain-length}
 
 -- ---- The other pages in hand stay
@@ -124,24 +124,30 @@ module _ {img : List ℕ} where
 
 -- ---- The loop
 
--- the pages from `page` on are left to be given back, which makes the image up to `goal`
-pub record Left (goal img : List ℕ) (page : ℕ) : Type 0 where
+-- the pages from `page` on are left to be given back, which makes the image up to `goal`; with the pages given they are `all`
+pub record Left (goal : List ℕ) (all : ℕ) (img : List ℕ) (page given : ℕ) : Type 0 where
   pub chain : Chained img page
   pub same : apply (giveMany (chain .old) (chain .hand .free) .writes) img ≡ goal
+  pub many : given + length (chain .old) ≡ all
 
-pub record Giving (img₀ : List ℕ) (start : ℕ) (img : List ℕ) (page : ℕ) : Type 0 where
+pub record Giving (img₀ : List ℕ) (start : ℕ) (img : List ℕ) (page given : ℕ) : Type 0 where
   pub size : length img ≡ length img₀
-  pub left : (c : Chained img₀ start) → Left (apply (giveMany (c .old) (c .hand .free) .writes) img₀) img page
+  pub left : (c : Chained img₀ start) → Left (apply (giveMany (c .old) (c .hand .free) .writes) img₀) (length (c .old)) img page given
 
-pub giving-start : (img : List ℕ) (start : ℕ) → Giving img start img start
-giving-start img start = record { size = refl; left = λ c. record { chain = c; same = refl } }
+pub giving-start : (img : List ℕ) (start : ℕ) → Giving img start img start 0
+giving-start img start = record { size = refl; left = λ c. record { chain = c; same = refl; many = omega arith } }
 
-module _ {img₀ : List ℕ} {start : ℕ} {img : List ℕ} {page : ℕ} (v : Giving img₀ start img page) where
-  pub giving-next : Chained img₀ start → (page ≡ 0 → ⊥) → (next : ℕ) → next ≡ be32 (pg img page) 4 → (img′ : List ℕ) → Gave img page img′ → Giving img₀ start img′ next
+module _ {img₀ : List ℕ} {start : ℕ} {img : List ℕ} {page given : ℕ} (v : Giving img₀ start img page given) where
+  -- no more than the image has
+  pub given-few : Chained img₀ start → given ≤ 4096
+  given-few c = omega (arith, v .left c .many, hand-few (c .hand), c .hand .holds .pages)
+
+  pub giving-next : Chained img₀ start → (page ≡ 0 → ⊥) → (next : ℕ) → next ≡ be32 (pg img page) 4 → (img′ : List ℕ) → Gave img page img′
+      → Giving img₀ start img′ next (given + 1)
   giving-next c₀ some next e img′ g =
       record {
         size = turn c₀ .size ∙ v .size;
-        left = λ c. record { chain = turn c .after; same = turn c .same ∙ v .left c .same };
+        left = λ c. record { chain = turn c .after; same = turn c .same ∙ v .left c .same; many = omega (arith, turn c .fewer, v .left c .many) };
       }
     where
       turn : (c : Chained img₀ start) → Turn img (v .left c .chain .old) (v .left c .chain .hand .free) next img′
@@ -154,9 +160,13 @@ module _ {img₀ : List ℕ} {start : ℕ} {img : List ℕ} {page : ℕ} (v : Gi
       let t : Turn img (v .left c .chain .old) (v .left c .chain .hand .free) next img′ = give-turn (v .left c .chain) some next e img′ g in
       omega (arith, t .fewer, chain-length (t .after), chain-length (v .left c .chain))
 
-  pub giving-end : page ≡ 0 → GaveChain img₀ start img
-  giving-end z = record { image = λ c. go (v .left c .chain .old) (v .left c .chain .hand) (v .left c .chain .first) (v .left c .same) }
+  pub giving-end : page ≡ 0 → GaveChain img₀ start given img
+  giving-end z = record { image = λ c. over c .0; given = λ c. over c .1 }
     where
-      go : {goal : List ℕ} (old : List ℕ) (h : InHand img old) → page ≡ firstOf old → apply (giveMany old (h .free) .writes) img ≡ goal → img ≡ goal
-      go [] h f e = e
-      go (x ∷ xs) h f e = absurd (omega (arith, hand-pages h .0))
+      go : {goal : List ℕ} {all : ℕ} (old : List ℕ) (h : InHand img old) → page ≡ firstOf old → apply (giveMany old (h .free) .writes) img ≡ goal
+          → given + length old ≡ all → (img ≡ goal) × (given ≡ all)
+      go [] h f e n = (e, omega arith)
+      go (x ∷ xs) h f e n = absurd (omega (arith, hand-pages h .0))
+
+      over : (c : Chained img₀ start) → (img ≡ apply (giveMany (c .old) (c .hand .free) .writes) img₀) × (given ≡ length (c .old))
+      over c = let l = v .left c in go (l .chain .old) (l .chain .hand) (l .chain .first) (l .same) (l .many)

@@ -1,5 +1,5 @@
 -- Pages in hand while a call works: the old continuation pages of a span, pages taken, pages given back.
-use Prim.Native.Nat.{ℕ, _+_, _*_, _≤_}
+use Prim.Native.Nat.{ℕ, _+_, _*_, _-_, _≤_}
 use mathlib.Core.Path.{_≡_}
 use mathlib.Core.List.{List, [], _++_, map}
 use lib.ListN.{length, take, drop}
@@ -60,9 +60,10 @@ pub record TookAll (img : List ℕ) (count : ℕ) (numbers : List ℕ) (at : ℕ
 
 -- ---- Pages given back
 
--- the continuation pages were given back, which left the image out
-pub record GaveChain (img : List ℕ) (start : ℕ) (out : List ℕ) : Type 0 where
+-- the continuation pages, r of them, were given back, which left the image out
+pub record GaveChain (img : List ℕ) (start r : ℕ) (out : List ℕ) : Type 0 where
   pub image : (c : Chained img start) → out ≡ apply (giveMany (c .old) (c .hand .free) .writes) img
+  pub given : (c : Chained img start) → r ≡ length (c .old)
 
 -- ---- Pages drawn
 
@@ -74,8 +75,9 @@ pub record Drawable (img : List ℕ) (start wanted : ℕ) : Type 0 where
 abbrev pub drawn : {img : List ℕ} {start wanted : ℕ} → Drawable img start wanted → Drawn
 drawn {img} {start} {wanted} d = draw (d .chain .old) wanted [] (d .chain .hand .free)
 
--- they were drawn, which left the image out; their numbers are in the list, and no other byte of it changed
-pub record Drew (img : List ℕ) (start wanted : ℕ) (numbers : List ℕ) (at : ℕ) (out list : List ℕ) : Type 0 where
+-- they were drawn, which left the image out; their numbers are in the list, and no other byte of it changed; r old pages were left over
+pub record Drew (img : List ℕ) (start wanted : ℕ) (numbers : List ℕ) (at r : ℕ) (out list : List ℕ) : Type 0 where
   pub image : (d : Drawable img start wanted) → out ≡ apply (drawn d .writes) img
   pub listed : (d : Drawable img start wanted) → list ≡ stored numbers at (drawn d .pages)
   pub stand : (d : Drawable img start wanted) → Numbers list (4 * at) (drawn d .pages)
+  pub given : (d : Drawable img start wanted) → r ≡ length (d .chain .old) - wanted

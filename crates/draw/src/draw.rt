@@ -42,23 +42,34 @@ fn take_pages(image: &mut [u8], count: usize, numbers: &mut [u8], from: usize)
     }
 }
 
-// Gives back a chain of continuation pages. The link of a page is read before the page is given back, which overwrites it.
-pub fn give_chain(image: &mut [u8], first: usize)
+// Gives back a chain of continuation pages. Answers how many. The link of a page is read before the page is given back, which
+// overwrites it.
+pub fn give_chain(image: &mut [u8], first: usize) -> usize
     requires { ⌜ Chained (now image) first ⌝ }
-    ensures { λ _. ⌜ GaveChain (now (image .entry)) first (now (image .exit)) ⌝ }
+    ensures { λ r. ⌜ GaveChain (now (image .entry)) first r (now (image .exit)) ⌝ }
 {
     let mut page = first;
+    let mut given = 0;
     while page != 0 {
         let next = get32(image, page, 4);
         give_page(image, page);
         page = next;
+        given += 1;
     }
+    given
 }
 
-// Draws `wanted` pages and stores their numbers from index `from` on; `first` is the first old page, 0 for none.
-pub fn draw_pages(image: &mut [u8], first: usize, wanted: usize, numbers: &mut [u8], from: usize)
+// Draws `wanted` pages and stores their numbers from index `from` on; `first` is the first old page, 0 for none. Answers how many
+// old pages were left over and given back.
+pub fn draw_pages(
+    image: &mut [u8],
+    first: usize,
+    wanted: usize,
+    numbers: &mut [u8],
+    from: usize,
+) -> usize
     requires { ⌜ Drawable (now image) first wanted × (4 * (from + wanted) ≤ length (now numbers)) ⌝ }
-    ensures { λ _. ⌜ Drew (now (image .entry)) first wanted (now (numbers .entry)) from (now (image .exit)) (now (numbers .exit)) ⌝ }
+    ensures { λ r. ⌜ Drew (now (image .entry)) first wanted (now (numbers .entry)) from r (now (image .exit)) (now (numbers .exit)) ⌝ }
 {
     let kept = keep_pages(image, first, wanted, numbers, from);
     take_pages(image, wanted - kept.count, numbers, from + kept.count);

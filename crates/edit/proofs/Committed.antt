@@ -127,7 +127,7 @@ module _ {img b : List ℕ} {x : Plan} {r : KeyRule} {t : Table} {bs : List Bloc
 
   -- ---- After drawing
 
-  module _ (out after : List ℕ) (w : DrewPlan img b x out after) where
+  module _ {n : ℕ} (out after : List ℕ) (w : DrewPlan img b x n out after) where
     pub image-drawn : out ≡ apply (drawnWith t i bs es (x .more) .writes) img
     image-drawn = w .image (can-draw h) ∙ ap (λ (d : Drawn). apply (d .writes) img) (drawn-is h)
 
@@ -236,13 +236,14 @@ module _ {img b : List ℕ} {x : Plan} {r : KeyRule} {t : Table} {bs : List Bloc
             ∙ (λ j. spanWrites (cutAt t i p s) (e j) ++ (towerWrites (riseAt t p (firstOf (e j)) before behind) (o .1 j) ++ (countsOf x ∷ [])))
             ∙ ap (λ u. spanWrites (cutAt t i p s) (q ∷ qs) ++ (towerWrites u (o .0 ∷ []) ++ (countsOf x ∷ []))) (sym (rise q)))
 
-pub committed-flat : {img b : List ℕ} {x : Plan} (out after fin : List ℕ) → DrewPlan img b x out after → x .wants .tower ≡ 0 → WroteFlat out after x fin → Committed img b x fin
-committed-flat out after fin w z f = record { image = λ r t bs i es h. flat-is h out after w z fin f }
+pub committed-flat : {img b : List ℕ} {x : Plan} {n : ℕ} (out after fin : List ℕ) → DrewPlan img b x n out after → x .wants .tower ≡ 0 → WroteFlat out after x fin
+    → Committed img b x n fin
+committed-flat out after fin w z f = record { image = λ r t bs i es h. flat-is h out after w z fin f; given = λ r t bs i es h. w .given (can-draw h) }
 
 -- with a tower, from the towers around it, which were read before
-pub committed-tall : {img b : List ℕ} {x : Plan} {path old : List ℕ} (before behind out after fin : List ℕ) → length old ≡ 252
+pub committed-tall : {img b : List ℕ} {x : Plan} {path old : List ℕ} {n : ℕ} (before behind out after fin : List ℕ) → length old ≡ 252
     → Filled old 252 (λ l. orHead (x .list .head) (getD path l 0)) before → AfterIn img (x .root) before behind
-    → DrewPlan img b x out after → (x .wants .tower ≡ 0 → ⊥) → WroteTall out after x before behind fin → CommittedOn img b x path fin
+    → DrewPlan img b x n out after → (x .wants .tower ≡ 0 → ⊥) → WroteTall out after x before behind fin → CommittedOn img b x path fin
 committed-tall before behind out after fin e l a w z f =
     record {
       image = λ r t bs i es h p.

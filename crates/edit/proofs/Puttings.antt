@@ -1,17 +1,18 @@
 -- The ways through `put`: the change of its spot is the text's plan.
-use Prim.Native.Nat.{ℕ, _+_, _/_, _≤_, _<_}
+use Prim.Native.Nat.{ℕ, _+_, _-_, _/_, _≤_, _<_}
 use native.Mathlib.Omega.{arith}
 use mathlib.Core.Path.{_≡_, refl, ap, sym, _∙_, subst}
-use mathlib.Core.Bool.{true, false, true≢false}
-use mathlib.Core.List.{List}
+use mathlib.Core.Bool.{true, false}
+use mathlib.Core.List.{List, []}
 use lib.ListN.{length}
 use borrow.Author.Tests.{le-ltb, lt-ltb}
 use Rattle.blockfile.specs.Bytes.{Write, apply}
 use Rattle.blockfile.specs.Layout.{Entry, Table, Layout, columns, freeCount}
 use Rattle.blockfile.specs.Order.{keyRule, insert}
 use Rattle.blockfile.specs.WellFormed.{TableOk}
-use Rattle.blockfile.specs.Plan.{lacks, writesOf}
+use Rattle.blockfile.specs.Plan.{Plan as TextPlan, drawnBy, lacks, writesOf}
 use Rattle.blockfile.specs.Put.{target, spanAt, parts, wantedBy, rewritePlan, putPlan}
+use Rattle.laws.proofs.Draws.{left-drawn}
 use Rattle.laws.proofs.Orders.{keys-ordered}
 use Rattle.laws.proofs.Targets.{target-is}
 use Rattle.laws.proofs.TablePut.{put-few}
@@ -26,20 +27,37 @@ use Rattle.links.proofs.Leading.{path-target}
 use Rattle.stage.specs.declared.change.Change.{Change}
 use Rattle.stage.specs.declared.change.Spot.{Spot}
 use Rattle.stage.specs.Changes.{Spotted, SpottedOn}
+use Rattle.edit.specs.declared.apply.Applied.the-variants.{Nothing, Left}
 use Rattle.edit.specs.declared.plan.Plan.{Plan}
 use Rattle.edit.specs.Shapes.{ContsCounted}
 use Rattle.edit.specs.Makes.{PlanReady, PlanFor}
 use Rattle.edit.specs.Applies.{wantedOf}
 use Rattle.edit.specs.Rewrites.{changed, writesFor, RewriteOf, CarryOn, CarriedOn}
-use Rattle.edit.specs.Puts.{TableAt, PutReady, PutDone}
+use Rattle.edit.specs.Puts.{CarriedOut, TableAt, PutReady, PutDone}
 use Rattle.edit.proofs.Stands.{table-standing}
 use Rattle.edit.proofs.Committing.{plan-total}
 use Rattle.edit.proofs.Rewritings.{plan-is, plan-ready, counted, carries, written}
+
+-- the answer tells how many pages are free
+pub told : {img : List ℕ} {L : Layout} {p : TextPlan} {m n : ℕ} {out : List ℕ} → CarriedOut img L p m out → Left m ≡ Left n → CarriedOut img L p n out
+told {img} {L} {p} {m} {n} {out} c e = let i : m ≡ n = cc in subst (λ (k : ℕ). CarriedOut img L p k out) i c
+
+pub not-left : {n : ℕ} → Nothing ≡ Left n → ⊥
+not-left e = let z : _≡_ {A = ℕ} 0 1 = cc in omega arith
 
 -- a span rewritten with the entries es is the text's plan for them
 pub plan-writes : (L : Layout) (name : List ℕ) (t : Table) (i : ℕ) {es fs : List Entry} → fs ≡ es → writesFor t i (L .free) fs ≡ writesOf L (rewritePlan L name t i es)
 unfolding writesOf rewritePlan
 plan-writes L name t i e = ap (writesFor t i (L .free)) e
+
+-- the pages old and free, but for those wanted, are free after it
+pub plan-left : (L : Layout) (name : List ℕ) (t : Table) (i : ℕ) {es fs : List Entry} → fs ≡ es → wantedBy (parts t fs) ≤ length (spanAt t i .conts) + freeCount (L .free)
+    → freeCount (drawnBy L (rewritePlan L name t i es) .free) + wantedBy (parts t fs) ≡ length (spanAt t i .conts) + freeCount (L .free)
+unfolding rewritePlan
+plan-left L name t i {es} {fs} e room =
+    let old : List ℕ = spanAt t i .conts in
+    subst (λ (l : List Entry). freeCount (drawnBy L (rewritePlan L name t i l) .free) + wantedBy (parts t fs) ≡ length old + freeCount (L .free)) e
+    (omega (arith, left-drawn old (wantedBy (parts t fs)) [] (L .free) room))
 
 -- the change that put makes at a spot
 abbrev pub putAt : Spot → Change
@@ -113,12 +131,16 @@ module _ {img : List ℕ} {d : TableRef} {free : ℕ} {k : List ℕ} (v : List �
       unfolding lacks putPlan rewritePlan
       enough = le-ltb (length (spanAt t (place a k) .conts) + freeCount (L .free)) _ (omega (arith, counted o q n m, wanted-is))
 
+      left-is : n + free - wantedOf x ≡ freeCount (drawnBy L (putPlan L name t k v) .free)
+      unfolding putPlan
+      left-is = omega (arith, counted o q n m, plan-total (plan-is o q), plan-left L name t (place a k) (inserted a k page f s g v) has-room)
+
       image-is : {path : Path} → PathIn img d k false path → {out : List ℕ} → CarriedOn img x (putAt s) k v (path .pages) out → out ≡ apply (writesOf L (putPlan L name t k v)) img
       unfolding putPlan
       image-is p w = written o q has-room (w .image (keyRule name) t (L .free) (place a k) (carries o q has-room) (path-target (reading a) k p)) ∙ ap (λ (ws : List Write). apply ws img) (plan-writes L name t (place a k) (inserted a k page f s g v))
 
-  pub put-full : n + free < wantedOf x → PutDone img d free k v false img
-  put-full l = record { done = λ e. absurd (true≢false (sym e)); refused = λ e L name t a h. (lacking a h l, refl) }
+  pub put-full : n + free < wantedOf x → PutDone img d free k v Nothing img
+  put-full l = record { done = λ b e. absurd (not-left e); refused = λ e L name t a h. (lacking a h l, refl) }
 
   module _ (l : wantedOf x ≤ n + free) where
     module _ {path : Path} (p : PathIn img d k false path) where
@@ -136,5 +158,9 @@ module _ {img : List ℕ} {d : TableRef} {free : ℕ} {k : List ℕ} (v : List �
             passed = path-target (reading (h .is)) k p;
           }
 
-      pub put-done : {out : List ℕ} → CarriedOn img x (putAt s) k v (path .pages) out → PutDone img d free k v true out
-      put-done w = record { done = λ e L name t a h. (enough a h l, image-is a h l p w); refused = λ e. absurd (true≢false e) }
+      pub put-done : {out : List ℕ} → CarriedOn img x (putAt s) k v (path .pages) out → PutDone img d free k v (Left (n + free - wantedOf x)) out
+      put-done w =
+          record {
+            done = λ b e L name t a h. (enough a h l, told (record { image = image-is a h l p w; left = left-is a h l }) e);
+            refused = λ e. absurd (not-left (sym e));
+          }

@@ -175,10 +175,15 @@ module _ {img : List ℕ} {x : Plan} {c : Change} {k v : List ℕ} where
   unfolding commit-ready
   commit-on h b e g = record { ready = commit-ready (h .ready) b e g; passed = h .passed }
 
-  pub carried : (b : List ℕ) → length b ≡ length img → PartsStaged img x c k v b → (out : List ℕ) → Committed img b x out → Carried img x c k v out
-  carried b e g out d = record { image = λ r t bs i a. d .image r t bs i (changed t i c k v) (commit-of (a .is) (a .plan) (a .whole) (a .room) b e g) }
+  pub carried : (b : List ℕ) → length b ≡ length img → PartsStaged img x c k v b → {n : ℕ} (out : List ℕ) → Committed img b x n out → Carried img x c k v n out
+  carried b e g out d =
+      record {
+        image = λ r t bs i a. d .image r t bs i (changed t i c k v) (commit-of (a .is) (a .plan) (a .whole) (a .room) b e g);
+        given = λ r t bs i a. d .given r t bs i (changed t i c k v) (commit-of (a .is) (a .plan) (a .whole) (a .room) b e g);
+      }
 
-  pub carried-flat : {path : List ℕ} (b : List ℕ) → length b ≡ length img → PartsStaged img x c k v b → (out : List ℕ) → Committed img b x out → CarriedOn img x c k v path out
+  pub carried-flat : {path : List ℕ} (b : List ℕ) → length b ≡ length img → PartsStaged img x c k v b → {n : ℕ} (out : List ℕ) → Committed img b x n out
+      → CarriedOn img x c k v path out
   carried-flat b e g out d = record { image = λ r t bs i a _. carried b e g out d .image r t bs i a }
 
   pub carried-tall : {path : List ℕ} (b : List ℕ) → length b ≡ length img → PartsStaged img x c k v b → (out : List ℕ) → CommittedOn img b x path out → CarriedOn img x c k v path out
@@ -197,23 +202,27 @@ module _ {img : List ℕ} {root page : ℕ} {c : Change} {k v : List ℕ} {r : K
   pub plan-ready : length k + length v ≤ 131070 → PlanReady img root page c (length k + length v)
   plan-ready l = record { reading = table-at o; place = i; change = o .change; few = columns-few (o .standing); short = l }
 
-  -- there is room, and no further pages are wanted
-  module _ {x : Plan} (q : PlanFor img root page c (length k + length v) 0 (length img / 1024) x)
-      (room : wantedBy (parts t (changed t i c k v)) ≤ length (spanAt t i .conts) + freeCount bs) where
-    pub carries : Carries img x c k v r t bs i
-    carries =
-        record {
-          root = root;
-          page = page;
-          more = 0;
-          base = length img / 1024;
-          is = o;
-          plan = q;
-          whole = omega (arith, q .words, o .standing .shows .size);
-          room = omega (arith, plan-total (plan-is o q), q .further, room);
-        }
+  -- no further pages are wanted
+  module _ {x : Plan} (q : PlanFor img root page c (length k + length v) 0 (length img / 1024) x) where
+    pub total-plain : totalOf x ≡ wantedBy (parts t (changed t i c k v))
+    total-plain = omega (arith, plan-total (plan-is o q), q .further)
 
-    pub written : {out : List ℕ} → out ≡ apply (writesWith t i bs (changed t i c k v) (x .more)) img → out ≡ apply (writesFor t i bs (changed t i c k v)) img
-    written d =
-        let es : List Entry = changed t i c k v in
-        d ∙ ap (λ (y : Drawn). apply (y .writes ++ rewrite t i es (y .pages) .writes) img) (drawn-plain t i bs es (x .more) (q .further))
+    -- there is room
+    module _ (room : wantedBy (parts t (changed t i c k v)) ≤ length (spanAt t i .conts) + freeCount bs) where
+      pub carries : Carries img x c k v r t bs i
+      carries =
+          record {
+            root = root;
+            page = page;
+            more = 0;
+            base = length img / 1024;
+            is = o;
+            plan = q;
+            whole = omega (arith, q .words, o .standing .shows .size);
+            room = omega (arith, total-plain, room);
+          }
+
+      pub written : {out : List ℕ} → out ≡ apply (writesWith t i bs (changed t i c k v) (x .more)) img → out ≡ apply (writesFor t i bs (changed t i c k v)) img
+      written d =
+          let es : List Entry = changed t i c k v in
+          d ∙ ap (λ (y : Drawn). apply (y .writes ++ rewrite t i es (y .pages) .writes) img) (drawn-plain t i bs es (x .more) (q .further))

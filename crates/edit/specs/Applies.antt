@@ -1,5 +1,5 @@
 -- A plan carried out.
-use Prim.Native.Nat.{ℕ, _+_, _*_, _≤_, _<_}
+use Prim.Native.Nat.{ℕ, _+_, _*_, _-_, _≤_, _<_}
 use mathlib.Core.Path.{_≡_}
 use mathlib.Core.List.{List, [], _∷_, _++_}
 use lib.ListN.{length}
@@ -31,10 +31,11 @@ pub record DrawReady (img buffer : List ℕ) (x : Plan) : Type 0 where
   pub tower : x .wants .tower < 4294967296
   pub more : x .more < 4294967296
 
--- they were drawn, and the list is the span's page and these
-pub record DrewPlan (img buffer : List ℕ) (x : Plan) (out after : List ℕ) : Type 0 where
+-- they were drawn, the list is the span's page and these, and n pages of the span were left over
+pub record DrewPlan (img buffer : List ℕ) (x : Plan) (n : ℕ) (out after : List ℕ) : Type 0 where
   pub image : (d : Drawable img (x .links .first) (totalOf x)) → out ≡ apply (drawn d .writes) img
   pub list : (d : Drawable img (x .links .first) (totalOf x)) → after ≡ sets (sets buffer 0 (word32 (x .page))) 4 (gather word32 (drawn d .pages))
+  pub given : (d : Drawable img (x .links .first) (totalOf x)) → n ≡ length (d .chain .old) - totalOf x
 
 -- ---- Written without a tower
 

@@ -1,5 +1,5 @@
 -- A span of a table rewritten: what is asked for once its entries are staged, and what is left.
-use Prim.Native.Nat.{ℕ, suc, _+_, _*_, _≤_, _<_}
+use Prim.Native.Nat.{ℕ, suc, _+_, _*_, _-_, _≤_, _<_}
 use mathlib.Core.Path.{_≡_}
 use mathlib.Core.List.{List, [], _++_}
 use lib.ListN.{length}
@@ -13,6 +13,7 @@ use Rattle.edit.specs.declared.plan.Plan.{Plan}
 use Rattle.edit.specs.Standing.{Standing}
 use Rattle.edit.specs.Makes.{PlanOf}
 use Rattle.edit.specs.Stages.{PartsIn}
+use Rattle.edit.specs.Applies.{totalOf}
 
 -- the span at place i of the table is to have the entries es: the plan is theirs, they are staged, and there is room
 pub record CommitOf (img buffer : List ℕ) (x : Plan) (r : KeyRule) (t : Table) (bs : List Block) (i : ℕ) (es : List Entry) : Type 0 where
@@ -43,9 +44,12 @@ drawnWith t i bs es n = draw (spanAt t i .conts) (wantedBy (parts t es) + n) [] 
 abbrev pub drawnFor : Table → (i : ℕ) → List Block → List Entry → Drawn
 drawnFor t i bs es = draw (spanAt t i .conts) (wantedBy (parts t es)) [] bs
 
-pub record Committed (img buffer : List ℕ) (x : Plan) (out : List ℕ) : Type 0 where
+-- n pages of the span were given back
+pub record Committed (img buffer : List ℕ) (x : Plan) (n : ℕ) (out : List ℕ) : Type 0 where
   pub image : (r : KeyRule) (t : Table) (bs : List Block) (i : ℕ) (es : List Entry) → CommitOf img buffer x r t bs i es
       → out ≡ apply (drawnWith t i bs es (x .more) .writes ++ rewrite t i es (drawnWith t i bs es (x .more) .pages) .writes) img
+  pub given : (r : KeyRule) (t : Table) (bs : List Block) (i : ℕ) (es : List Entry) → CommitOf img buffer x r t bs i es
+      → n ≡ length (spanAt t i .conts) - totalOf x
 
 -- ---- With the path to the span
 

@@ -1,7 +1,7 @@
 -- What put asks for, and what it leaves.
 use Prim.Native.Nat.{ℕ, _≤_}
 use mathlib.Core.Path.{_≡_}
-use mathlib.Core.Bool.{Bool, true, false}
+use mathlib.Core.Bool.{true, false}
 use mathlib.Core.List.{List}
 use mathlib.Core.Option.{some}
 use lib.ListN.{length}
@@ -10,10 +10,17 @@ use Rattle.blockfile.specs.Bytes.{apply}
 use Rattle.blockfile.specs.Layout.{Table, Layout, freeCount}
 use Rattle.blockfile.specs.Order.{keyRule, find}
 use Rattle.blockfile.specs.WellFormed.{WellFormed}
-use Rattle.blockfile.specs.Plan.{lacks, writesOf}
+use Rattle.blockfile.specs.Plan.{Plan, drawnBy, lacks, writesOf}
 use Rattle.blockfile.specs.Put.{putPlan}
 use Rattle.order.specs.Sorts.{sortOf}
 use Rattle.search.specs.declared.table.TableRef.{TableRef}
+use Rattle.edit.specs.declared.apply.Applied.{Applied}
+use Rattle.edit.specs.declared.apply.Applied.the-variants.{Nothing, Left}
+
+-- the plan is carried out, and n pages are free after it
+pub record CarriedOut (img : List ℕ) (L : Layout) (p : Plan) (n : ℕ) (out : List ℕ) : Type 0 where
+  pub image : out ≡ apply (writesOf L p) img
+  pub left : n ≡ freeCount (drawnBy L p .free)
 
 -- the image has this layout, and the table of this name is the one that is meant
 pub record TableAt (img : List ℕ) (d : TableRef) (L : Layout) (name : List ℕ) (t : Table) : Type 0 where
@@ -32,9 +39,9 @@ pub record PutReady (img scratch : List ℕ) (d : TableRef) (free : ℕ) (k v : 
   pub short : length v ≤ 65535
   pub lent : length scratch ≡ length img
 
--- r says whether there was room; the image after is the text's, or as it was
-pub record PutDone (img : List ℕ) (d : TableRef) (free : ℕ) (k v : List ℕ) (r : Bool) (out : List ℕ) : Type 0 where
-  pub done : r ≡ true → (L : Layout) (name : List ℕ) (t : Table) → TableAt img d L name t → freeCount (L .free) ≡ free
-      → (lacks L (putPlan L name t k v) ≡ false) × (out ≡ apply (writesOf L (putPlan L name t k v)) img)
-  pub refused : r ≡ false → (L : Layout) (name : List ℕ) (t : Table) → TableAt img d L name t → freeCount (L .free) ≡ free
+-- with room the text's plan is carried out, else the image is as it was
+pub record PutDone (img : List ℕ) (d : TableRef) (free : ℕ) (k v : List ℕ) (r : Applied) (out : List ℕ) : Type 0 where
+  pub done : (n : ℕ) → r ≡ Left n → (L : Layout) (name : List ℕ) (t : Table) → TableAt img d L name t → freeCount (L .free) ≡ free
+      → (lacks L (putPlan L name t k v) ≡ false) × CarriedOut img L (putPlan L name t k v) n out
+  pub refused : r ≡ Nothing → (L : Layout) (name : List ℕ) (t : Table) → TableAt img d L name t → freeCount (L .free) ≡ free
       → (lacks L (putPlan L name t k v) ≡ true) × (out ≡ img)

@@ -1,5 +1,5 @@
 -- A span of a table rewritten: what is asked for, and what is left.
-use Prim.Native.Nat.{ℕ, suc, _+_, _*_, _≤_}
+use Prim.Native.Nat.{ℕ, suc, _+_, _*_, _-_, _≤_}
 use mathlib.Core.Path.{_≡_}
 use mathlib.Core.List.{List, _++_}
 use lib.ListN.{length}
@@ -57,8 +57,10 @@ pub record CarryReady (img buffer : List ℕ) (x : Plan) (c : Change) (k v : Lis
 abbrev pub writesWith : Table → (i : ℕ) → List Block → List Entry → (n : ℕ) → List Write
 writesWith t i bs es n = drawnWith t i bs es n .writes ++ rewrite t i es (drawnWith t i bs es n .pages) .writes
 
-pub record Carried (img : List ℕ) (x : Plan) (c : Change) (k v out : List ℕ) : Type 0 where
+-- n pages of the span were given back
+pub record Carried (img : List ℕ) (x : Plan) (c : Change) (k v : List ℕ) (n : ℕ) (out : List ℕ) : Type 0 where
   pub image : (r : KeyRule) (t : Table) (bs : List Block) (i : ℕ) → Carries img x c k v r t bs i → out ≡ apply (writesWith t i bs (changed t i c k v) (x .more)) img
+  pub given : (r : KeyRule) (t : Table) (bs : List Block) (i : ℕ) → Carries img x c k v r t bs i → n ≡ length (spanAt t i .conts) - totalOf x
 
 -- with the path to the span
 pub record CarryOn (img buffer : List ℕ) (x : Plan) (c : Change) (k v path : List ℕ) : Type 0 where

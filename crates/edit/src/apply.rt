@@ -17,10 +17,17 @@ use links::around::towers_after;
 use links::around::towers_before;
 use stage::change::Change;
 
-// Draws the pages that the plan wants, and the further ones: the list in the buffer is then the span's own page and these.
-fn draw_plan(image: &mut [u8], buffer: &mut [u8], plan: Plan)
+// Whether a change was made, and then how many pages are free after it.
+pub enum Applied {
+    Nothing,
+    Left(usize),
+}
+
+// Draws the pages that the plan wants, and the further ones: the list in the buffer is then the span's own page and these. Answers
+// how many pages of the span were left over and given back.
+fn draw_plan(image: &mut [u8], buffer: &mut [u8], plan: Plan) -> usize
     requires { ⌜ DrawReady (now image) (now buffer) plan ⌝ }
-    ensures { λ _. ⌜ DrewPlan (now (image .entry)) (now (buffer .entry)) plan (now (image .exit)) (now (buffer .exit)) ⌝ }
+    ensures { λ r. ⌜ DrewPlan (now (image .entry)) (now (buffer .entry)) plan r (now (image .exit)) (now (buffer .exit)) ⌝ }
 {
     let total = plan.wants.conts + plan.wants.span + plan.wants.tower + plan.more;
     set_number(buffer, 0, plan.page);
@@ -63,13 +70,14 @@ fn write_tall(
     write_counts(image, plan)
 }
 
-// Carries out a plan without a tower.
-fn commit_flat(image: &mut [u8], buffer: &mut [u8], plan: Plan)
+// Carries out a plan without a tower. Answers how many pages of the span were given back.
+fn commit_flat(image: &mut [u8], buffer: &mut [u8], plan: Plan) -> usize
     requires { ⌜ CommitReady (now image) (now buffer) plan × (plan .wants .tower ≡ 0) ⌝ }
-    ensures { λ _. ⌜ Committed (now (image .entry)) (now (buffer .entry)) plan (now (image .exit)) ⌝ }
+    ensures { λ r. ⌜ Committed (now (image .entry)) (now (buffer .entry)) plan r (now (image .exit)) ⌝ }
 {
-    draw_plan(image, buffer, plan);
-    write_flat(image, buffer, plan)
+    let given = draw_plan(image, buffer, plan);
+    write_flat(image, buffer, plan);
+    given
 }
 
 // Carries out a plan with a tower. The towers around it are read before anything is written: those before it by the path to the span.
@@ -85,7 +93,8 @@ fn commit_tall(image: &mut [u8], buffer: &mut [u8], plan: Plan, path: &[u16; 252
     write_tall(image, buffer, plan, &before, &after)
 }
 
-// Carries out a plan without a tower for which there is room: its span gets its entries after the change.
+// Carries out a plan without a tower for which there is room: its span gets its entries after the change. Answers how many pages of
+// the span were given back.
 pub fn carry_flat(
     image: &mut [u8],
     buffer: &mut [u8],
@@ -93,9 +102,9 @@ pub fn carry_flat(
     change: Change,
     key: &[u8],
     value: &[u8],
-)
+) -> usize
     requires { ⌜ CarryReady (now image) (now buffer) plan change (now key) (now value) × (plan .wants .tower ≡ 0) ⌝ }
-    ensures { λ _. ⌜ Carried (now (image .entry)) plan change (now (key .entry)) (now (value .entry)) (now (image .exit)) ⌝ }
+    ensures { λ r. ⌜ Carried (now (image .entry)) plan change (now (key .entry)) (now (value .entry)) r (now (image .exit)) ⌝ }
 {
     stage_parts(image, buffer, plan, change, key, value);
     commit_flat(image, buffer, plan)

@@ -1,5 +1,6 @@
 // A key's value put into a table.
 ghost use Rattle.edit.specs.Puts.{PutReady, PutDone};
+use crate::apply::Applied;
 use crate::apply::carry_out;
 use crate::plan::make_plan;
 use crate::shape::count_conts;
@@ -9,8 +10,8 @@ use search::table::find_from;
 use stage::change::Change;
 use stage::change::find_spot;
 
-// Puts the value under the key in the table; `free` pages are free. Answers whether there was room; else nothing changes. The scratch
-// is as long as the image.
+// Puts the value under the key in the table; `free` pages are free. Answers how many are free after it; without room nothing
+// changes. The scratch is as long as the image.
 pub fn put(
     image: &mut [u8],
     scratch: &mut [u8],
@@ -18,7 +19,7 @@ pub fn put(
     free: usize,
     key: &[u8],
     value: &[u8],
-) -> bool
+) -> Applied
     requires { ⌜ PutReady (now image) (now scratch) table free (now key) (now value) ⌝ }
     ensures { λ r. ⌜ PutDone (now (image .entry)) table free (now (key .entry)) (now (value .entry)) r (now (image .exit)) ⌝ }
 {
@@ -42,10 +43,12 @@ pub fn put(
         base,
     );
     let old = count_conts(image, page, plan.links.size);
-    if old + free < plan.wants.conts + plan.wants.span + plan.wants.tower {
-        return false;
+    let available = old + free;
+    let wanted = plan.wants.conts + plan.wants.span + plan.wants.tower;
+    if available < wanted {
+        return Applied::Nothing;
     }
     let pages = path.pages;
     carry_out(image, scratch, plan, change, key, value, &pages);
-    true
+    Applied::Left(available - wanted)
 }

@@ -1,5 +1,6 @@
 -- The ways through `give_gone`: pages in hand are given back, one after another.
-use Prim.Native.Nat.{ℕ, zero, suc, _*_, _≤_}
+use Prim.Native.Nat.{ℕ, zero, suc, _+_, _*_, _≤_}
+use native.Mathlib.Omega.{arith}
 use mathlib.Core.Path.{_≡_, refl, ap, sym, _∙_, subst}
 use mathlib.Core.List.{List, [], _∷_, _++_, append-assoc, append-nil}
 use lib.ListN.{length}
@@ -16,7 +17,7 @@ use Rattle.pages.specs.Taking.{Giveable, Gave}
 use Rattle.entries.specs.Places.{IsPage}
 use Rattle.draw.specs.Hands.{InHand, Chained, GaveChain}
 use Rattle.draw.specs.Writing.{PageOf}
-use Rattle.draw.proofs.Hands.{shown, hand-pages}
+use Rattle.draw.proofs.Hands.{shown, hand-pages, hand-few}
 use Rattle.remove.specs.Gone.{pageIn, SpanInHand, GaveGone}
 
 -- pages given back in two steps
@@ -68,7 +69,15 @@ module _ {img : List ℕ} {start page : ℕ} (h : SpanInHand img start page) whe
         linked = h .linked;
       }
 
-  module _ {out1 : List ℕ} (g : GaveChain img start out1) where
+  module _ {n : ℕ} {out1 : List ℕ} (g : GaveChain img start n out1) where
+    conts-many : n ≡ length (h .conts)
+    unfolding chained
+    conts-many = g .given chained
+
+    pub conts-few : n ≤ 4096
+    unfolding chained
+    conts-few = omega (arith, conts-many, hand-few (chained .hand), h .hand .holds .pages)
+
     conts-given : out1 ≡ apply (giveMany (h .conts) bs .writes) img
     unfolding chained
     conts-given = g .image chained
@@ -113,9 +122,10 @@ module _ {img : List ℕ} {start page : ℕ} (h : SpanInHand img start page) whe
               give-more img (h .conts ++ (page ∷ [])) (suc n) bs span-given (k (giveMany (h .conts ++ (page ∷ [])) bs .free) shown-second)
               ∙ ap (λ (l : List ℕ). apply (giveMany l bs .writes) img) (append-assoc (h .conts) (page ∷ []) (suc n ∷ []))
 
-pub gave-flat : {img : List ℕ} {start page tower : ℕ} {out1 out2 : List ℕ} → GaveChain img start out1 → Gave out1 page out2 → tower ≡ 0 → GaveGone img start page tower out2
-gave-flat g f z = record { image = λ h. flat-given h g f z }
+pub gave-flat : {img : List ℕ} {start page tower n : ℕ} {out1 out2 : List ℕ} → GaveChain img start n out1 → Gave out1 page out2 → tower ≡ 0
+    → GaveGone img start page tower (n + 1) out2
+gave-flat g f z = record { image = λ h. flat-given h g f z; given = λ h. omega (arith, conts-many h g, z) }
 
-pub gave-tall : {img : List ℕ} {start page tower : ℕ} {out1 out2 out3 : List ℕ} → GaveChain img start out1 → Gave out1 page out2 → (tower ≡ 0 → ⊥) → Gave out2 tower out3
-    → GaveGone img start page tower out3
-gave-tall g f z k = record { image = λ h. tall-given h g f z k }
+pub gave-tall : {img : List ℕ} {start page tower n : ℕ} {out1 out2 out3 : List ℕ} → GaveChain img start n out1 → Gave out1 page out2 → (tower ≡ 0 → ⊥) → Gave out2 tower out3
+    → GaveGone img start page tower (n + 2) out3
+gave-tall g f z k = record { image = λ h. tall-given h g f z k; given = λ h. omega (arith, conts-many h g, z) }

@@ -11,8 +11,8 @@ use Rattle.laws.proofs.Splits.{parts-plain}
 use Rattle.edit.specs.declared.plan.Plan.{Plan}
 use Rattle.edit.specs.Makes.{PlanReady, PlanFor}
 use Rattle.edit.specs.Rewrites.{Carries, CarryReady, Carried}
-use Rattle.edit.proofs.Rewritings.{plan-is, plan-ready, carries, written}
-use Rattle.remove.specs.Leaves.{takenOut, others, LeaveOf, LeaveReady, Left}
+use Rattle.edit.proofs.Rewritings.{plan-is, plan-ready, total-plain, carries, written}
+use Rattle.remove.specs.Leaves.{takenOut, others, LeaveOf, LeaveReady, SpanLeft}
 
 pub planned : {img scratch : List ℕ} {root page index : ℕ} → LeaveReady img scratch root page index → PlanReady img root page (takenOut index) 0
 planned h = plan-ready (h .is .rewrite) (omega arith)
@@ -29,5 +29,9 @@ module _ {img : List ℕ} {root page index : ℕ} {x : Plan} (q : PlanFor img ro
   pub carry-ready : {scratch : List ℕ} → LeaveReady img scratch root page index → CarryReady img scratch x (takenOut index) [] [] × (x .wants .tower ≡ 0)
   carry-ready h = (record { rule = h .rule; table = h .table; blocks = h .blocks; place = h .place; carries = carried-for (h .is); lent = h .lent }, flat (h .is))
 
-  pub left : {out : List ℕ} → Carried img x (takenOut index) [] [] out → Left img root page index out
-  left d = record { image = λ r t bs i o. written (o .rewrite) q (omega (arith, o .wants)) (d .image r t bs i (carried-for o)) }
+  pub left : {n : ℕ} {out : List ℕ} → Carried img x (takenOut index) [] [] n out → SpanLeft img root page index n out
+  left d =
+      record {
+        image = λ r t bs i o. written (o .rewrite) q (omega (arith, o .wants)) (d .image r t bs i (carried-for o));
+        given = λ r t bs i o. omega (arith, d .given r t bs i (carried-for o), total-plain (o .rewrite) q, o .wants);
+      }

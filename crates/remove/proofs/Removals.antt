@@ -3,18 +3,19 @@ use Prim.Native.Nat.{ℕ, zero, suc, _+_, _≤_, _<_}
 use native.Mathlib.Omega.{arith}
 use mathlib.Core.Path.{_≡_, refl, ap, sym, _∙_, subst}
 use mathlib.Core.Logic.{_⊎_, inl, inr}
-use mathlib.Core.Bool.{Bool, true, false, cond, true≢false}
-use mathlib.Core.List.{List, [], _∷_}
-use mathlib.Core.Option.{none, some}
-use lib.ListN.{length}
+use mathlib.Core.Bool.{Bool, true, false, cond}
+use mathlib.Core.List.{List, [], _∷_, _++_, map}
+use mathlib.Core.Option.{Option, none, some}
+use lib.ListN.{length, take, drop, length-map}
 use lib.Dec.{T}
 use Rattle.blockfile.specs.Bytes.{Write, apply}
-use Rattle.blockfile.specs.Layout.{Entry, Table, Layout, columns, entriesOf}
+use Rattle.blockfile.specs.Layout.{Entry, Tower, Column, Table, Layout, columns, towerIn, towersOf, entriesOf, freeCount}
 use Rattle.blockfile.specs.Order.{keyRule, same, find, erase}
 use Rattle.blockfile.specs.Plan.{writesOf}
 use Rattle.blockfile.specs.Put.{spanAt, parts, wantedBy, rewritePlan}
-use Rattle.blockfile.specs.Remove.{unlinkPlan, leavePlan, removePlan}
+use Rattle.blockfile.specs.Remove.{towersAt, unlinkPlan, leavePlan, removePlan}
 use Rattle.blockfile.proofs.Bools.{same-eq}
+use Rattle.laws.proofs.Draws.{left-drawn}
 use Rattle.laws.proofs.Orders.{keys-ordered}
 use Rattle.laws.proofs.Targets.{target-is, find-at}
 use Rattle.laws.proofs.Paths.{BeginsWith}
@@ -28,21 +29,32 @@ use Rattle.links.proofs.Leading.{path-strict}
 use Rattle.stage.specs.declared.change.Spot.{Spot}
 use Rattle.stage.specs.Changes.{spliced, Fits, Spotted, SpottedOn}
 use Rattle.stage.proofs.Splices.{length-spliced}
+use Rattle.edit.specs.declared.apply.Applied.the-variants.{Nothing, Left}
 use Rattle.edit.specs.declared.fields.Links.{Links}
 use Rattle.edit.specs.Fields.{LinkedOn, LinksOf, LinksRead}
 use Rattle.edit.specs.Standing.{hereAt}
 use Rattle.edit.specs.Stages.{coming}
-use Rattle.edit.specs.Puts.{TableAt}
+use Rattle.edit.specs.Puts.{CarriedOut, TableAt}
 use Rattle.edit.proofs.Stands.{table-standing, span-borne}
-use Rattle.edit.proofs.Puttings.{reading, place, ok, inside, spotted, plan-writes}
-use Rattle.remove.specs.Unlinks.{UnlinkOf, UnlinkReady, Unlinked}
-use Rattle.remove.specs.Leaves.{takenOut, others, LeaveOf, LeaveReady, Left}
+use Rattle.edit.proofs.Rewritings.{all-few}
+use Rattle.edit.proofs.Puttings.{told, not-left, reading, place, ok, inside, spotted, plan-writes, plan-left}
+use Rattle.remove.specs.Unlinks.{goneCount, UnlinkOf, UnlinkReady, Unlinked}
+use Rattle.remove.specs.Leaves.{takenOut, others, LeaveOf, LeaveReady, SpanLeft}
 use Rattle.remove.specs.Removes.{RemoveReady, RemoveDone}
 use Rattle.remove.proofs.Unlinkings.{prev-is}
 
 no-entries : (es : List Entry) → length es ≡ 0 → es ≡ []
 no-entries [] e = refl
 no-entries (x ∷ es) e = absurd (omega arith)
+
+-- a span has at most one tower
+one-at-most : (cs : List Column) → length (towersOf (take 1 cs)) ≤ 1
+one-at-most [] = omega arith
+one-at-most (c ∷ cs) = go (c .tower)
+  where
+    go : (w : Option Tower) → length (towerIn w ++ []) ≤ 1
+    go none = omega arith
+    go (some w) = omega arith
 
 -- one entry, and the key is among them
 only-key : (k v : List ℕ) (es : List Entry) → length es ≡ 1 → find k es ≡ some v → BeginsWith k es
@@ -166,10 +178,29 @@ module _ {img : List ℕ} {d : TableRef} {L : Layout} {name : List ℕ} {t : Tab
           unfolding removePlan
           gone-plan = λ j. leavePlan L name t (later .1 j) (none-left j)
 
-          gone-done : {path : Path} → PathIn img d k true path → {out : List ℕ} → Unlinked img (d .root) page x (path .pages) out → out ≡ apply (writesOf L (removePlan L name t k)) img
-          unfolding writesOf unlinkPlan
-          gone-done p {out} u =
-              subst (λ q. out ≡ apply (writesOf L q) img) (sym gone-plan) (u .image (keyRule name) t (L .free) (later .0) (unlink-of p))
+          module _ {path : Path} (p : PathIn img d k true path) {m : ℕ} {out : List ℕ} (u : Unlinked img (d .root) page x (path .pages) m out) where
+            gone-many : m ≡ goneCount t (suc (later .0))
+            gone-many = u .given (keyRule name) t (L .free) (later .0) (unlink-of p)
+
+            gone-few : m ≤ length (spanAt t i .conts) + 2
+            gone-few =
+                subst (λ (j : ℕ). m ≤ length (spanAt t j .conts) + 2) (sym (later .1)) (omega (arith, gone-many, one-at-most (drop (suc (later .0)) (columns t))))
+
+            gone-done : {free : ℕ} → freeCount (L .free) ≡ free → CarriedOut img L (removePlan L name t k) (free + m) out
+            unfolding writesOf unlinkPlan
+            gone-done {free} e =
+                let j : ℕ = suc (later .0) in
+                let ts : List ℕ = map (λ (w : Tower). w .page) (towersAt t j) in
+                subst (λ q. CarriedOut img L q (free + m) out) (sym gone-plan)
+                (record {
+                  image = u .image (keyRule name) t (L .free) (later .0) (unlink-of p);
+                  left = omega (
+                    arith,
+                    gone-many,
+                    length-map (towersAt t j) (λ (w : Tower). w .page),
+                    left-drawn (spanAt t j .conts) 0 (spanAt t j .page ∷ ts) (L .free) (omega arith),
+                  );
+                })
 
         -- ---- The span is rewritten
 
@@ -190,14 +221,18 @@ module _ {img : List ℕ} {d : TableRef} {L : Layout} {name : List ℕ} {t : Tab
           unfolding removePlan
           left-plan = leave-rewrites L name t i (erase k es) stays
 
-          left-done : {out : List ℕ} → Left img (d .root) page (s .index) out → out ≡ apply (writesOf L (removePlan L name t k)) img
-          left-done w =
-              w .image (keyRule name) t (L .free) i leave-of
-              ∙ ap (λ (ws : List Write). apply ws img) (plan-writes L name t i erased ∙ ap (writesOf L) (sym left-plan))
+          left-done : {free : ℕ} → freeCount (L .free) ≡ free → {m : ℕ} {out : List ℕ} → SpanLeft img (d .root) page (s .index) m out
+              → CarriedOut img L (removePlan L name t k) (free + m) out
+          left-done {free} e {m} {out} w =
+              subst (λ q. CarriedOut img L q (free + m) out) (sym left-plan)
+              (record {
+                image = w .image (keyRule name) t (L .free) i leave-of ∙ ap (λ (ws : List Write). apply ws img) (plan-writes L name t i erased);
+                left = omega (arith, w .given (keyRule name) t (L .free) i leave-of, plan-left L name t i erased (omega (arith, leave-of .wants)));
+              })
 
 -- ---- What the calls ask for
 
-module _ {img scratch : List ℕ} {d : TableRef} {k : List ℕ} (h : RemoveReady img scratch d k) (page : ℕ) (f : TargetIn img d k page)
+module _ {img scratch : List ℕ} {d : TableRef} {free : ℕ} {k : List ℕ} (h : RemoveReady img scratch d free k) (page : ℕ) (f : TargetIn img d k page)
     (s : Spot) (g : SpottedOn img page (d .sort) k s) (there : s .there ≡ 0 → ⊥) where
   pub unlink-ready : (x : Links) → LinksRead img page x → (x .prev ≡ 0 → ⊥) × (x .size ≡ 1) → {path : Path} → PathIn img d k true path
       → UnlinkReady img (d .root) page x (path .pages)
@@ -208,20 +243,31 @@ module _ {img scratch : List ℕ} {d : TableRef} {k : List ℕ} (h : RemoveReady
   leave-ready =
       record { rule = keyRule (h .name); table = h .table; blocks = h .layout .free; place = _; is = leave-of (h .is) k page f s g there; lent = h .lent }
 
+  -- the pages of the span and the free ones are no more than the image has
+  pages-few : length (spanAt (h .table) (place (h .is) k) .conts) + free ≤ 4096
+  pages-few = let o = leave-of (h .is) k page f s g there .rewrite in omega (arith, all-few o, h .pages, o .standing .readable .small)
+
+  pub few-gone : (x : Links) → LinksRead img page x → (x .prev ≡ 0 → ⊥) × (x .size ≡ 1) → {path : Path} → PathIn img d k true path → {n : ℕ} {out : List ℕ}
+      → Unlinked img (d .root) page x (path .pages) n out → free + n ≤ 4098
+  few-gone x y n p u = omega (arith, pages-few, gone-few (h .is) k page f s g there x y n p u)
+
+  pub few-left : {n : ℕ} {out : List ℕ} → SpanLeft img (d .root) page (s .index) n out → free + n ≤ 4098
+  few-left w = omega (arith, pages-few, w .given _ _ _ _ (leave-of (h .is) k page f s g there))
+
 -- ---- The answers
 
-module _ {img : List ℕ} {d : TableRef} {k : List ℕ} (page : ℕ) (f : TargetIn img d k page) (s : Spot) (g : SpottedOn img page (d .sort) k s) where
-  pub not-there : s .there ≡ 0 → RemoveDone img d k false img
-  not-there z = record { done = λ e. absurd (true≢false (sym e)); missing = λ e L name t a. (missing a k page f s g z, refl) }
+module _ {img : List ℕ} {d : TableRef} {free : ℕ} {k : List ℕ} (page : ℕ) (f : TargetIn img d k page) (s : Spot) (g : SpottedOn img page (d .sort) k s) where
+  pub not-there : s .there ≡ 0 → RemoveDone img d free k Nothing img
+  not-there z = record { done = λ n e. absurd (not-left e); missing = λ e L name t a. (missing a k page f s g z, refl) }
 
   module _ (there : s .there ≡ 0 → ⊥) (x : Links) (y : LinksRead img page x) where
-    was-there : {out : List ℕ} → ((L : Layout) (name : List ℕ) (t : Table) → TableAt img d L name t → out ≡ apply (writesOf L (removePlan L name t k)) img)
-        → RemoveDone img d k true out
-    was-there h = record { done = λ e L name t a. (found a k page f s g there, h L name t a); missing = λ e. absurd (true≢false e) }
+    was-there : {n : ℕ} {out : List ℕ} → ((L : Layout) (name : List ℕ) (t : Table) → TableAt img d L name t → freeCount (L .free) ≡ free → CarriedOut img L (removePlan L name t k) n out)
+        → RemoveDone img d free k (Left n) out
+    was-there h = record { done = λ m e L name t a c. (found a k page f s g there, told (h L name t a c) e); missing = λ e. absurd (not-left (sym e)) }
 
-    pub went : (x .prev ≡ 0 → ⊥) × (x .size ≡ 1) → {path : Path} → PathIn img d k true path → {out : List ℕ} → Unlinked img (d .root) page x (path .pages) out
-        → RemoveDone img d k true out
-    went n p u = was-there (λ L name t a. gone-done a k page f s g there x y n p u)
+    pub went : (x .prev ≡ 0 → ⊥) × (x .size ≡ 1) → {path : Path} → PathIn img d k true path → {n : ℕ} {out : List ℕ} → Unlinked img (d .root) page x (path .pages) n out
+        → RemoveDone img d free k (Left (free + n)) out
+    went z p u = was-there (λ L name t a e. gone-done a k page f s g there x y z p u e)
 
-    pub stayed : (x .prev ≡ 0) ⊎ (x .size ≡ 1 → ⊥) → {out : List ℕ} → Left img (d .root) page (s .index) out → RemoveDone img d k true out
-    stayed n w = was-there (λ L name t a. left-done a k page f s g there x y n w)
+    pub stayed : (x .prev ≡ 0) ⊎ (x .size ≡ 1 → ⊥) → {n : ℕ} {out : List ℕ} → SpanLeft img (d .root) page (s .index) n out → RemoveDone img d free k (Left (free + n)) out
+    stayed z w = was-there (λ L name t a e. left-done a k page f s g there x y z e w)

@@ -38,7 +38,7 @@ use Rattle.remove.specs.declared.tower.OwnTower.{OwnTower}
 use Rattle.remove.specs.declared.unlink.Going.{Going}
 use Rattle.remove.specs.Gone.{pageIn, SpanInHand, GoneReady, GaveGone}
 use Rattle.remove.specs.Towers.{FoundTower}
-use Rattle.remove.specs.Unlinks.{aroundWrites, SpansReady, lowered, CountsReady, GoneAt, unlinkWrites, GoingAt, LetGo, UnlinkOf, Unlinked}
+use Rattle.remove.specs.Unlinks.{aroundWrites, SpansReady, lowered, CountsReady, GoneAt, unlinkWrites, goneCount, GoingAt, LetGo, UnlinkOf, Unlinked}
 
 -- ---- `link_spans`
 
@@ -179,6 +179,9 @@ module _ {img : List ℕ} {x : Going} {w : OwnTower} {path : List ℕ} {r : KeyR
         levels = omega (arith, h .list .levels, one-tower, unlinked-levels t k (g .inside));
       }
 
+  gone-many : {n : ℕ} {out : List ℕ} → GaveGone img (x .links .first) (x .page) (w .page) n out → n ≡ goneCount t (suc k)
+  gone-many a = omega (arith, a .given span, one-tower)
+
   -- ---- What is written
 
   given-coded : draw (spanAt t (suc k) .conts) 0 (spanAt t (suc k) .page ∷ map (λ u. u .page) (towersAt t (suc k))) bs .writes
@@ -224,9 +227,9 @@ module _ {img : List ℕ} {x : Going} {w : OwnTower} {path : List ℕ} {r : KeyR
         spans-coded (gather (λ u. relink (without t (suc k)) (suc k) (u .height)) (towersAt t (suc k)) ++ (countsOn (without t (suc k)) ∷ []))
         ∙ (λ j. aroundWrites (x .links .prev) (x .links .next) ++ (levels-coded at j ++ counts-coded j))
 
-    written : {out1 out2 out3 out4 : List ℕ} → GaveGone img (x .links .first) (x .page) (w .page) out1 → out2 ≡ apply (aroundWrites (x .links .prev) (x .links .next)) out1
+    written : {n : ℕ} {out1 out2 out3 out4 : List ℕ} → GaveGone img (x .links .first) (x .page) (w .page) n out1 → out2 ≡ apply (aroundWrites (x .links .prev) (x .links .next)) out1
         → out3 ≡ apply (linkWrites before (w .after) (w .height)) out2 → out4 ≡ apply (lowered x (w .page)) out3 → out4 ≡ apply (unlinkWrites t k bs) img
-    written {out1} a b c d =
+    written a b c d =
         let gs : List Write = giveMany (spanAt t (suc k) .conts ++ (x .page ∷ pageIn (w .page))) bs .writes in
         let ss : List Write = aroundWrites (x .links .prev) (x .links .next) in
         let ls : List Write = linkWrites before (w .after) (w .height) in
@@ -236,11 +239,11 @@ module _ {img : List ℕ} {x : Going} {w : OwnTower} {path : List ℕ} {r : KeyR
         ∙ sym (apply-append gs (ss ++ (ls ++ lowered x (w .page))) img)
         ∙ ap₂ (λ (p q : List Write). apply (p ++ q) img) (sym given-coded) (sym links-coded)
 
-pub let-go : {img : List ℕ} {x : Going} {w : OwnTower} {path old before out1 out2 out3 out4 : List ℕ} → length old ≡ 252
-    → Filled old 252 (λ l. orHead (x .list .head) (getD path l 0)) before → GaveGone img (x .links .first) (x .page) (w .page) out1
+pub let-go : {img : List ℕ} {x : Going} {w : OwnTower} {path old before out1 out2 out3 out4 : List ℕ} {n : ℕ} → length old ≡ 252
+    → Filled old 252 (λ l. orHead (x .list .head) (getD path l 0)) before → GaveGone img (x .links .first) (x .page) (w .page) n out1
     → out2 ≡ apply (aroundWrites (x .links .prev) (x .links .next)) out1 → out3 ≡ apply (linkWrites before (w .after) (w .height)) out2
-    → out4 ≡ apply (lowered x (w .page)) out3 → LetGo img x w path out4
-let-go long f a b c d = record { image = λ r t bs k h. written h (before-at h long f) a b c d }
+    → out4 ≡ apply (lowered x (w .page)) out3 → LetGo img x w path n out4
+let-go long f a b c d = record { image = λ r t bs k h. written h (before-at h long f) a b c d; given = λ r t bs k h. gone-many h a }
 
 -- ---- `unlink`
 
@@ -258,6 +261,6 @@ module _ {img : List ℕ} {root page : ℕ} {x : Links} {path : List ℕ} {r : K
       → GoingAt img (record { root = root; page = page; list = l; links = x }) w path r t bs k
   going-at l w = record { gone = u .gone; list = l .is table-read; links = u .links; tower = w .is root table-read k preceded }
 
-pub unlinked : {img : List ℕ} {root page : ℕ} {x : Links} {path : List ℕ} {l : SkipList} {w : OwnTower} {out : List ℕ} → ListRead img root l → FoundTower img page path w
-    → LetGo img (record { root = root; page = page; list = l; links = x }) w path out → Unlinked img root page x path out
-unlinked l w g = record { image = λ r t bs k u. g .image r t bs k (going-at u l w) }
+pub unlinked : {img : List ℕ} {root page : ℕ} {x : Links} {path : List ℕ} {l : SkipList} {w : OwnTower} {n : ℕ} {out : List ℕ} → ListRead img root l → FoundTower img page path w
+    → LetGo img (record { root = root; page = page; list = l; links = x }) w path n out → Unlinked img root page x path n out
+unlinked l w g = record { image = λ r t bs k u. g .image r t bs k (going-at u l w); given = λ r t bs k u. g .given r t bs k (going-at u l w) }

@@ -1,5 +1,5 @@
 -- A span left with its other entries: what is asked for, and what is left.
-use Prim.Native.Nat.{ℕ, _≤_}
+use Prim.Native.Nat.{ℕ, _+_, _≤_}
 use mathlib.Core.Path.{_≡_}
 use mathlib.Core.List.{List, []}
 use lib.ListN.{length}
@@ -32,6 +32,9 @@ pub record LeaveReady (img scratch : List ℕ) (root page index : ℕ) : Type 0 
   pub is : LeaveOf img root page index rule table blocks place
   pub lent : length scratch ≡ length img
 
-pub record Left (img : List ℕ) (root page index : ℕ) (out : List ℕ) : Type 0 where
+-- n of its pages were given back
+pub record SpanLeft (img : List ℕ) (root page index n : ℕ) (out : List ℕ) : Type 0 where
   pub image : (r : KeyRule) (t : Table) (bs : List Block) (i : ℕ) → LeaveOf img root page index r t bs i
       → out ≡ apply (writesFor t i bs (others t i index)) img
+  pub given : (r : KeyRule) (t : Table) (bs : List Block) (i : ℕ) → LeaveOf img root page index r t bs i
+      → n + wantedBy (parts t (others t i index)) ≡ length (spanAt t i .conts)

@@ -1,5 +1,5 @@
 -- A span, not the first, unlinked and given back: what is asked for, and what is left.
-use Prim.Native.Nat.{ℕ, suc, _-_, _≤_, _<_, min}
+use Prim.Native.Nat.{ℕ, suc, _+_, _-_, _≤_, _<_, min}
 use mathlib.Core.Path.{_≡_}
 use mathlib.Core.List.{List, [], _∷_, _++_, map}
 use lib.ListN.{length}
@@ -56,6 +56,10 @@ unlinkWrites t k bs =
     draw (spanAt t (suc k) .conts) 0 (spanAt t (suc k) .page ∷ map (λ w. w .page) (towersAt t (suc k))) bs .writes
     ++ unlinking (without t (suc k)) (suc k) (towersAt t (suc k))
 
+-- how many pages the text gives back: the continuation pages, the span's and its tower's
+abbrev pub goneCount : Table → (i : ℕ) → ℕ
+goneCount t i = length (spanAt t i .conts) + 1 + length (towersAt t i)
+
 -- with all that was read of it
 pub record GoingAt (img : List ℕ) (x : Going) (w : OwnTower) (path : List ℕ) (r : KeyRule) (t : Table) (bs : List Block) (k : ℕ) : Type 0 where
   pub gone : GoneAt img (x .root) (x .page) r t bs k
@@ -70,8 +74,9 @@ pub record GoingReady (img : List ℕ) (x : Going) (w : OwnTower) (path : List �
   pub place : ℕ
   pub is : GoingAt img x w path rule table blocks place
 
-pub record LetGo (img : List ℕ) (x : Going) (w : OwnTower) (path out : List ℕ) : Type 0 where
+pub record LetGo (img : List ℕ) (x : Going) (w : OwnTower) (path : List ℕ) (n : ℕ) (out : List ℕ) : Type 0 where
   pub image : (r : KeyRule) (t : Table) (bs : List Block) (k : ℕ) → GoingAt img x w path r t bs k → out ≡ apply (unlinkWrites t k bs) img
+  pub given : (r : KeyRule) (t : Table) (bs : List Block) (k : ℕ) → GoingAt img x w path r t bs k → n ≡ goneCount t (suc k)
 
 -- the links are what the page of the span at place k + 1 says, and the path has the towers before it
 pub record UnlinkOf (img : List ℕ) (root page : ℕ) (x : Links) (path : List ℕ) (r : KeyRule) (t : Table) (bs : List Block) (k : ℕ) : Type 0 where
@@ -86,5 +91,6 @@ pub record UnlinkReady (img : List ℕ) (root page : ℕ) (x : Links) (path : Li
   pub place : ℕ
   pub is : UnlinkOf img root page x path rule table blocks place
 
-pub record Unlinked (img : List ℕ) (root page : ℕ) (x : Links) (path out : List ℕ) : Type 0 where
+pub record Unlinked (img : List ℕ) (root page : ℕ) (x : Links) (path : List ℕ) (n : ℕ) (out : List ℕ) : Type 0 where
   pub image : (r : KeyRule) (t : Table) (bs : List Block) (k : ℕ) → UnlinkOf img root page x path r t bs k → out ≡ apply (unlinkWrites t k bs) img
+  pub given : (r : KeyRule) (t : Table) (bs : List Block) (k : ℕ) → UnlinkOf img root page x path r t bs k → n ≡ goneCount t (suc k)

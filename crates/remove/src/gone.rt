@@ -3,14 +3,16 @@ ghost use Rattle.remove.specs.Gone.{GoneReady, GaveGone};
 use draw::draw::give_chain;
 use pages::free::give_page;
 
-// Gives back the continuation pages from `first` on, the span's page and its tower's, 0 for no tower.
-pub fn give_gone(image: &mut [u8], first: usize, page: usize, tower: usize)
+// Gives back the continuation pages from `first` on, the span's page and its tower's, 0 for no tower. Answers how many pages.
+pub fn give_gone(image: &mut [u8], first: usize, page: usize, tower: usize) -> usize
     requires { ⌜ GoneReady (now image) first page tower ⌝ }
-    ensures { λ _. ⌜ GaveGone (now (image .entry)) first page tower (now (image .exit)) ⌝ }
+    ensures { λ r. ⌜ GaveGone (now (image .entry)) first page tower r (now (image .exit)) ⌝ }
 {
-    give_chain(image, first);
+    let conts = give_chain(image, first);
     give_page(image, page);
-    if tower != 0 {
-        give_page(image, tower)
+    if tower == 0 {
+        return conts + 1;
     }
+    give_page(image, tower);
+    conts + 2
 }

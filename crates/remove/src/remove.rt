@@ -1,7 +1,8 @@
 // A key removed from a table.
-ghost use Rattle.remove.specs.Leaves.{LeaveReady, Left};
+ghost use Rattle.remove.specs.Leaves.{LeaveReady, SpanLeft};
 ghost use Rattle.remove.specs.Removes.{Goes, RemoveReady, RemoveDone};
 use crate::unlink::unlink;
+use edit::apply::Applied;
 use edit::apply::carry_flat;
 use edit::fields::Links;
 use edit::fields::read_links;
@@ -23,10 +24,10 @@ fn goes(links: Links) -> bool
 }
 
 // Takes the entry at the index out of the span on `page` of the table with the skip-list page `root`. The others never reach further
-// than all did, so they want no pages but the span's own. The scratch is as long as the image.
-fn leave(image: &mut [u8], scratch: &mut [u8], root: usize, page: usize, index: usize)
+// than all did, so they want no pages but the span's own. Answers how many of these were given back. The scratch is as long as the image.
+fn leave(image: &mut [u8], scratch: &mut [u8], root: usize, page: usize, index: usize) -> usize
     requires { ⌜ LeaveReady (now image) (now scratch) root page index ⌝ }
-    ensures { λ _. ⌜ Left (now (image .entry)) root page index (now (image .exit)) ⌝ }
+    ensures { λ r. ⌜ SpanLeft (now (image .entry)) root page index r (now (image .exit)) ⌝ }
 {
     let change = Change {
         index,
@@ -39,26 +40,32 @@ fn leave(image: &mut [u8], scratch: &mut [u8], root: usize, page: usize, index: 
     carry_flat(image, scratch, plan, change, &none, &none)
 }
 
-// Removes the key from the table. Answers whether it was there; else nothing changes. The scratch is as long as the image. The path is
-// strictly below the key: a span that goes has that key alone, so the path has the towers before it, and the span where the key belongs is
-// found from any tower before.
-pub fn remove(image: &mut [u8], scratch: &mut [u8], table: TableRef, key: &[u8]) -> bool
-    requires { ⌜ RemoveReady (now image) (now scratch) table (now key) ⌝ }
-    ensures { λ r. ⌜ RemoveDone (now (image .entry)) table (now (key .entry)) r (now (image .exit)) ⌝ }
+// Removes the key from the table; `free` pages are free. Answers how many are free after it; if the key is not there, nothing changes.
+// The scratch is as long as the image. The path is strictly below the key: a span that goes has that key alone, so the path has the
+// towers before it, and the span where the key belongs is found from any tower before.
+pub fn remove(
+    image: &mut [u8],
+    scratch: &mut [u8],
+    table: TableRef,
+    free: usize,
+    key: &[u8],
+) -> Applied
+    requires { ⌜ RemoveReady (now image) (now scratch) table free (now key) ⌝ }
+    ensures { λ r. ⌜ RemoveDone (now (image .entry)) table free (now (key .entry)) r (now (image .exit)) ⌝ }
 {
     let path = descend(image, table, key, true);
     let page = find_from(image, table, path.pages[0] as usize, key);
     let sort = table.sort;
     let spot = find_spot(image, page, sort, key);
     if spot.there == 0 {
-        return false;
+        return Applied::Nothing;
     }
     let links = read_links(image, page);
     if goes(links) {
         let pages = path.pages;
-        unlink(image, table.root, page, links, &pages);
-    } else {
-        leave(image, scratch, table.root, page, spot.index);
+        let left = free + unlink(image, table.root, page, links, &pages);
+        return Applied::Left(left);
     }
-    true
+    let left = free + leave(image, scratch, table.root, page, spot.index);
+    Applied::Left(left)
 }

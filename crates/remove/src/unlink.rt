@@ -44,25 +44,26 @@ fn lower_counts(image: &mut [u8], going: Going, tower: usize)
     put_counts(image, going.root, size, spans, levels)
 }
 
-// Gives the pages back and writes the links around them.
-fn let_go(image: &mut [u8], going: Going, tower: OwnTower, path: &[u16; 252])
+// Gives the pages back and writes the links around them. Answers how many pages.
+fn let_go(image: &mut [u8], going: Going, tower: OwnTower, path: &[u16; 252]) -> usize
     requires { ⌜ GoingReady (now image) going tower (now path) ⌝ }
-    ensures { λ _. ⌜ LetGo (now (image .entry)) going tower (now (path .entry)) (now (image .exit)) ⌝ }
+    ensures { λ r. ⌜ LetGo (now (image .entry)) going tower (now (path .entry)) r (now (image .exit)) ⌝ }
 {
     let mut before = [0usize; 252];
     towers_before(path, going.list.head, &mut before);
     let after = tower.after;
-    give_gone(image, going.links.first, going.page, tower.page);
+    let given = give_gone(image, going.links.first, going.page, tower.page);
     link_spans(image, going.links.prev, going.links.next);
     link_levels(image, &before, &after, tower.height);
-    lower_counts(image, going, tower.page)
+    lower_counts(image, going, tower.page);
+    given
 }
 
 // Unlinks the span on `page` of the table with the skip-list page `root`, and gives it back; `links` is what its page says, and the path
-// has the towers before it.
-pub fn unlink(image: &mut [u8], root: usize, page: usize, links: Links, path: &[u16; 252])
+// has the towers before it. Answers how many pages were given back.
+pub fn unlink(image: &mut [u8], root: usize, page: usize, links: Links, path: &[u16; 252]) -> usize
     requires { ⌜ UnlinkReady (now image) root page links (now path) ⌝ }
-    ensures { λ _. ⌜ Unlinked (now (image .entry)) root page links (now (path .entry)) (now (image .exit)) ⌝ }
+    ensures { λ r. ⌜ Unlinked (now (image .entry)) root page links (now (path .entry)) r (now (image .exit)) ⌝ }
 {
     let list = read_list(image, root);
     let tower = find_tower(image, path, page);

@@ -12,7 +12,7 @@ use Rattle.blockfile.specs.Refusals.{Op}
 use Rattle.blockfile.specs.Calls.{cleared, wroteReply, accepted, Keeps}
 use Rattle.laws.proofs.Determined.{determined}
 use Rattle.refusals.specs.Open.{Opening}
-use Rattle.change.specs.Change.{LendingFree, Changed}
+use Rattle.change.specs.Change.{Lending, Changed}
 use Rattle.refusals.proofs.Opens.{ends}
 
 -- ---- The scratch that is lent: up to the image's length
@@ -24,12 +24,9 @@ module _ {img s mid : List ℕ} {c : Counts} (o : Opening img s c mid) where
   pub lent-long : length (take (length img) mid) ≡ length img
   lent-long = length-take-le (length img) mid lent-enough
 
-  pub lending : LendingFree img (take (length img) mid) (c .free)
+  pub lending : Lending img (take (length img) mid) (c .free)
   lending =
-      record {
-        lent = record { layout = o .layout; well = o .well; long = lent-long };
-        pages = sym (ap (λ (x : Counts). x .free) (o .counts));
-      }
+      record { layout = o .layout; well = o .well; pages = sym (ap (λ (x : Counts). x .free) (o .counts)); long = lent-long }
 
   -- whatever is left of it, the scratch can be cleared
   pub still-enough : (left : List ℕ) → length left ≡ length img → length img ≤ length (left ++ drop (length img) mid)

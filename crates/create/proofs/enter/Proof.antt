@@ -14,6 +14,11 @@ count-conts-requires c κs =
     let p = c .before in
     conts-known (p .before .before .before .before .before .pre .enters) (p .make-plan .ensures)
 
+add-available : tie.Need-add-available
+add-available c =
+    let p = c .before .before in
+    omega (arith, reach-few (p .before .before .before .before .before .pre .enters) (p .make-plan .ensures) _ (c .count-conts .ensures))
+
 add-wanted : tie.Need-add-wanted
 add-wanted c =
     let p = c .before .before .before in
@@ -24,14 +29,8 @@ add-wanted-2 c =
     let p = c .before .before .before .before in
     omega (arith, wanted-near (p .before .before .before .before .before .pre .enters) (p .make-plan .ensures))
 
-add-if1 : tie.Need-add-if1
-add-if1 c =
-    let n = c .before .before in
-    let p = n .before .before in
-    omega (arith, reach-few (p .before .before .before .before .before .pre .enters) (p .make-plan .ensures) _ (n .count-conts .ensures))
-
-add-if1-2 : tie.Need-add-if1-2
-add-if1-2 c =
+add-total : tie.Need-add-total
+add-total c =
     let p = c .before .before .before .before in
     omega (arith, wanted-near (p .before .before .before .before .before .pre .enters) (p .make-plan .ensures))
 
@@ -91,10 +90,10 @@ enter-spec =
     (λ c. search needs)
     make-plan-requires
     count-conts-requires
+    add-available
     add-wanted
     add-wanted-2
-    add-if1
-    add-if1-2
+    add-total
     (λ c. search needs)
     returns
     sub-new-table

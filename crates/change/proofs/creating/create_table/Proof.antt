@@ -11,7 +11,7 @@ returns : tie.Need-returns
 returns c = name-refused (c .before .before .before .before .before .pre) _ (sym (c .before .is-name .ensures) ∙ not-true _ (c .if1 .taken))
 
 find-table-requires : tie.Need-find-table-requires
-find-table-requires c κs = let p = c .before .before .before .before .before .before .pre in (p .lent .layout, p .lent .well)
+find-table-requires c κs = let p = c .before .before .before .before .before .before .pre in (p .layout, p .well)
 
 -- the name is allowed
 named : (c : tie.Else1) → nameRule .allowed (c .before .before .before .before .before .args .name .now) ≡ true
@@ -32,19 +32,19 @@ create-requires c κs =
 
 returns-3 : tie.Need-returns-3
 returns-3 c =
-    let w = c .before .before .before .before .before in
+    let w = c .before .before .before .before .before .before in
     let u = w .before .before .before in
     let f = u .before .before in
     let g = f .before .before in
-    create-full (g .before .before .before .before .before .pre) _ (named g) (f .find-table .ensures) (u .enum-told .given .1) _ _ (w .create .ensures) (not-true _ (c .if2 .taken))
+    create-full (g .before .before .before .before .before .pre) _ (named g) (f .find-table .ensures) (u .enum-told .given .1) _ _ (w .create .ensures) (c .enum-told4 .given .1)
 
 returns-4 : tie.Need-returns-4
 returns-4 c =
-    let w = c .before .before .before .before .before in
+    let w = c .before .before .before .before .before .before in
     let u = w .before .before .before in
     let f = u .before .before in
     let g = f .before .before in
-    create-done (g .before .before .before .before .before .pre) _ (named g) (f .find-table .ensures) (u .enum-told .given .1) _ _ (w .create .ensures) (not-false _ (c .if2 .left))
+    create-done (g .before .before .before .before .before .pre) _ (named g) (f .find-table .ensures) (u .enum-told .given .1) _ _ (w .create .ensures) _ (c .enum-told3 .given .1)
 
 pub create-table-spec : {M : Type 1} → statement M
 create-table-spec =
@@ -58,6 +58,8 @@ create-table-spec =
     (λ c. search needs)
     returns-2
     create-requires
+    (λ c. search needs)
+    (λ c. search needs)
     (λ c. search needs)
     (λ c. search needs)
     returns-3

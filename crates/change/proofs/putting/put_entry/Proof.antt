@@ -1,5 +1,4 @@
 use borrow.Author.Needs.{needs}
-use borrow.Author.Tests.{not-true, not-false}
 use Rattle.change.proofs.Puts.{Judged, put-refused, put-ready, put-done, put-full}
 use Rattle.change.proofs.putting.put_entry.Statement.{statement}
 use Rattle.change.proofs.putting.put_entry.Tie as tie
@@ -18,7 +17,7 @@ judged c =
     }
 
 named-table-requires : tie.Need-named-table-requires
-named-table-requires c κs = let p = c .before .before .before .before .before .before .before .before .before .pre in (p .lent .layout, p .lent .well)
+named-table-requires c κs = let p = c .before .before .before .before .before .before .before .before .before .pre in (p .layout, p .well)
 
 put-requires : tie.Need-put-requires
 put-requires c κs =
@@ -28,10 +27,10 @@ put-requires c κs =
 
 returns : tie.Need-returns
 returns c =
-    let w = c .before .before .before .before .before in
+    let w = c .before .before .before .before .before .before in
     let p = w .before .before .before .before in
     let t = p .before .before in
-    put-full (judged t) (start t .pre) (t .named-table .ensures) _ (p .page .given .1) _ _ (w .put .ensures) (not-true _ (c .if1 .taken))
+    put-full (judged t) (start t .pre) (t .named-table .ensures) _ (p .page .given .1) _ _ (w .put .ensures) (c .enum-told2 .given .1)
 
 returns-2 : tie.Need-returns-2
 returns-2 c =
@@ -40,10 +39,10 @@ returns-2 c =
 
 returns-3 : tie.Need-returns-3
 returns-3 c =
-    let w = c .before .before .before .before .before in
+    let w = c .before .before .before .before .before .before in
     let p = w .before .before .before .before in
     let t = p .before .before in
-    put-done (judged t) (start t .pre) (t .named-table .ensures) _ (p .page .given .1) _ _ (w .put .ensures) (not-false _ (c .if1 .left))
+    put-done (judged t) (start t .pre) (t .named-table .ensures) _ (p .page .given .1) _ _ (w .put .ensures) _ (c .enum-told .given .1)
 
 pub put-entry-spec : {M : Type 1} → statement M
 put-entry-spec =
@@ -56,6 +55,8 @@ put-entry-spec =
     (λ c. search needs)
     (λ c. search needs)
     put-requires
+    (λ c. search needs)
+    (λ c. search needs)
     (λ c. search needs)
     (λ c. search needs)
     returns

@@ -1,5 +1,4 @@
 use borrow.Author.Needs.{needs}
-use borrow.Author.Tests.{not-true, not-false}
 use Rattle.change.proofs.Named.{KeyJudged}
 use Rattle.change.proofs.Removes.{remove-refused, remove-ready, remove-done, remove-missing}
 use Rattle.change.proofs.removing.remove_entry.Statement.{statement}
@@ -21,10 +20,10 @@ remove-requires c κs =
 
 returns : tie.Need-returns
 returns c =
-    let w = c .before .before .before .before .before in
+    let w = c .before .before .before .before .before .before in
     let p = w .before .before .before .before in
     let t = p .before .before in
-    remove-missing (judged t) (start t .pre) (t .named-table .ensures) _ (p .page .given .1) _ _ (w .remove .ensures) (not-true _ (c .if1 .taken))
+    remove-missing (judged t) (start t .pre) (t .named-table .ensures) _ (p .page .given .1) _ _ (w .remove .ensures) (c .enum-told2 .given .1)
 
 returns-2 : tie.Need-returns-2
 returns-2 c =
@@ -33,10 +32,10 @@ returns-2 c =
 
 returns-3 : tie.Need-returns-3
 returns-3 c =
-    let w = c .before .before .before .before .before in
+    let w = c .before .before .before .before .before .before in
     let p = w .before .before .before .before in
     let t = p .before .before in
-    remove-done (judged t) (start t .pre) (t .named-table .ensures) _ (p .page .given .1) _ _ (w .remove .ensures) (not-false _ (c .if1 .left))
+    remove-done (judged t) (start t .pre) (t .named-table .ensures) _ (p .page .given .1) _ _ (w .remove .ensures) _ (c .enum-told .given .1)
 
 pub remove-entry-spec : {M : Type 1} → statement M
 remove-entry-spec =
@@ -48,6 +47,8 @@ remove-entry-spec =
     (λ c. search needs)
     (λ c. search needs)
     remove-requires
+    (λ c. search needs)
+    (λ c. search needs)
     (λ c. search needs)
     (λ c. search needs)
     returns

@@ -15,6 +15,7 @@ returns c =
     record {
       image = λ a. d .draw-pages .ensures .image a;
       list = λ a. d .draw-pages .ensures .listed a ∙ ap (λ (l : List ℕ). sets l 4 (gather word32 (drawn a .pages))) (n .set-number .ensures);
+      given = λ a. d .draw-pages .ensures .given a;
     }
 
 pub draw-plan-spec : {M : Type 1} → statement M

@@ -45,22 +45,22 @@ count-conts-requires c κs =
     let g = spot p in
     conts-ready (change-of (start (span g) .pre) _ (span g .find-from .ensures) _ (g .find-spot .ensures)) (p .make-plan .ensures)
 
-add-if1 : tie.Need-add-if1
-add-if1 c =
+add-available : tie.Need-add-available
+add-available c =
     let p = plan c in
     let g = spot p in
     let o = change-of (start (span g) .pre) _ (span g .find-from .ensures) _ (g .find-spot .ensures) in
     omega (arith, counted o (p .make-plan .ensures) _ (c .count-conts .ensures), start (span g) .pre .pages, all-few o, o .standing .readable .small)
 
-add-if1-2 : tie.Need-add-if1-2
-add-if1-2 c =
+add-wanted : tie.Need-add-wanted
+add-wanted c =
     let p = plan (c .before) in
     let g = spot p in
     let o = change-of (start (span g) .pre) _ (span g .find-from .ensures) _ (g .find-spot .ensures) in
     omega (arith, conts-near o (p .make-plan .ensures), span-near o (p .make-plan .ensures))
 
-add-if1-3 : tie.Need-add-if1-3
-add-if1-3 c =
+add-wanted-2 : tie.Need-add-wanted-2
+add-wanted-2 c =
     let p = plan (c .before .before) in
     let g = spot p in
     let o = change-of (start (span g) .pre) _ (span g .find-from .ensures) _ (g .find-spot .ensures) in
@@ -102,9 +102,9 @@ put-spec =
     add-make-plan
     make-plan-requires
     count-conts-requires
-    add-if1
-    add-if1-2
-    add-if1-3
+    add-available
+    add-wanted
+    add-wanted-2
     (λ c. search needs)
     returns
     carry-out-requires

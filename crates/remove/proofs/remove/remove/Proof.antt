@@ -1,9 +1,10 @@
 -- `remove::remove::remove` meets its contract: no such key, the span goes, or it is left with its other entries.
+use native.Mathlib.Omega.{arith}
 use borrow.Author.Needs.{needs}
 use Rattle.search.proofs.Tables.{target-span}
 use Rattle.search.proofs.Descents.{lowest-of}
 use Rattle.edit.proofs.Puttings.{reading}
-use Rattle.remove.proofs.Removals.{linked-on, unlink-ready, leave-ready, not-there, went, stayed}
+use Rattle.remove.proofs.Removals.{linked-on, unlink-ready, leave-ready, few-gone, few-left, not-there, went, stayed}
 use Rattle.remove.proofs.remove.remove.Statement.{statement}
 use Rattle.remove.proofs.remove.remove.Tie as tie
 
@@ -44,12 +45,19 @@ unlink-requires c κs =
     unlink-ready (start f .pre) _ (f .find-from .ensures) _ (g .find-spot .ensures) (e .if1 .left) _ (o .before .read-links .ensures) (o .goes .ensures .yes (t .if2 .taken))
     (way f .descend .ensures)
 
-leave-requires : tie.Need-leave-requires
-leave-requires c κs =
-    let e = c .before .before .before .before .before .before in
+add-left : tie.Need-add-left
+add-left c =
+    let u = c .before .before in
+    let t = u .before .before .before .before in
+    let o = t .before in
+    let e = o .before .before .before in
     let g = spot e in
     let f = g .before .before in
-    leave-ready (start f .pre) _ (f .find-from .ensures) _ (g .find-spot .ensures) (e .if1 .left)
+    omega (
+      arith,
+      few-gone (start f .pre) _ (f .find-from .ensures) _ (g .find-spot .ensures) (e .if1 .left) _ (o .before .read-links .ensures) (o .goes .ensures .yes (t .if2 .taken))
+          (way f .descend .ensures) (u .unlink .ensures),
+    )
 
 returns-2 : tie.Need-returns-2
 returns-2 c =
@@ -61,6 +69,21 @@ returns-2 c =
     let f = g .before .before in
     went _ (f .find-from .ensures) _ (g .find-spot .ensures) (e .if1 .left) _ (o .before .read-links .ensures) (o .goes .ensures .yes (t .if2 .taken)) (way f .descend .ensures)
     (u .unlink .ensures)
+
+leave-requires : tie.Need-leave-requires
+leave-requires c κs =
+    let e = c .before .before .before .before .before .before in
+    let g = spot e in
+    let f = g .before .before in
+    leave-ready (start f .pre) _ (f .find-from .ensures) _ (g .find-spot .ensures) (e .if1 .left)
+
+add-left-2 : tie.Need-add-left-2
+add-left-2 c =
+    let w = c .before .before .before .before in
+    let e = w .before .before .before .before .before .before .before in
+    let g = spot e in
+    let f = g .before .before in
+    omega (arith, few-left (start f .pre) _ (f .find-from .ensures) _ (g .find-spot .ensures) (e .if1 .left) (w .leave .ensures))
 
 returns-3 : tie.Need-returns-3
 returns-3 c =
@@ -85,9 +108,11 @@ remove-spec =
     read-links-requires
     (λ c κs. search needs)
     unlink-requires
-    leave-requires
+    add-left
     (λ c. search needs)
     returns-2
+    leave-requires
+    add-left-2
     (λ c. search needs)
     (λ c. search needs)
     returns-3)
