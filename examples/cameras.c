@@ -7,6 +7,11 @@
 
 static uint8_t card[4096 * 1024], scratch[sizeof card];
 
+/* The free pages as the card keeps them in bytes 28 to 31, one more than there are; -1 where it does not. */
+static long kept_free(void) {
+    return ((long)card[28] << 24 | (long)card[29] << 16 | (long)card[30] << 8 | (long)card[31]) - 1;
+}
+
 int main(int argc, char **argv) {
     FILE *file = argc == 2 ? fopen(argv[1], "rb") : NULL;
     if (!file) {
@@ -22,6 +27,7 @@ int main(int argc, char **argv) {
     printf("put cam1: %u\n", a.number);
     a = calstore_put(card, n, scratch, sizeof scratch, BYTES("lens"), BYTES("cam2"), BYTES("f=985 k1=-0.09"));
     printf("put cam2: %u\n", a.number);
+    printf("pages left: %ld\n", kept_free());
 
     uint8_t record[65535];
     a = calstore_get(card, n, scratch, sizeof scratch, BYTES("lens"), BYTES("cam2"), record, sizeof record);

@@ -33,6 +33,12 @@ struct Card {
 
 #[rustfmt::skip]
 impl Card {
+    /// The free pages as the card keeps them in bytes 28 to 31, one more than there are; none where it does not.
+    fn kept_free(&self) -> Option<u32> {
+        let kept = self.image[28..32].try_into().expect("four bytes");
+        u32::from_be_bytes(kept).checked_sub(1)
+    }
+
     fn check(&mut self) -> Answer {
         unsafe { calstore_check(self.image.as_ptr(), self.image.len(), self.scratch.as_mut_ptr(), self.scratch.len()) }
     }
@@ -80,6 +86,10 @@ fn main() {
     println!(
         "put cam2: {}",
         card.put(b"lens", b"cam2", b"f=985 k1=-0.09").number
+    );
+    println!(
+        "pages left: {}",
+        card.kept_free().expect("a done put keeps it")
     );
 
     let mut record = vec![0; 65535];

@@ -12,6 +12,10 @@
  *
  * A table sorts its keys by unsigned bytes, a proper prefix first. A table whose name begins with "#" is an offset table: its
  * keys have exactly four bytes, a signed number in two's complement, high byte first, and sort as these numbers.
+ *
+ * Bytes 28 to 31 of an image, a number with its high byte first, are one more than its free pages, or 0 where the card does not
+ * keep them. Every put, remove and create that is done writes them, so that the room left can be read there without a call. An
+ * image with any other number there is not well-formed.
  */
 #ifndef CALSTORE_H
 #define CALSTORE_H

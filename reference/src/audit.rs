@@ -28,6 +28,7 @@ pub fn audit(
     let layout = check(after).map_err(|broken| format!("not well-formed: {}", broken[0]))?;
     says_every_used_byte(after, &layout)?;
     owned_once(&layout)?;
+    ensure(layout.count_kept, "the free count is kept")?;
     let change = Change::new(&before.layout, &layout, &request.call)
         .ok_or("does not hold: the changed table is there")?;
     change.spans_as_promised()?;
@@ -307,7 +308,7 @@ impl<'a> Change<'a> {
                 continue;
             }
             let allowed = match kind {
-                Kind::Superblock => vec![(superblock::FIRST_BLOCK, 4)],
+                Kind::Superblock => vec![(superblock::FIRST_BLOCK, 4), (superblock::KEPT_COUNT, 4)],
                 Kind::Block => self.on_block(before, number, was[&number]),
                 Kind::Free if was[&number] != Kind::Free => vec![(0, kind.mark().len())],
                 _ if own.contains(&(number, kind)) => self.on_table(number, kind),

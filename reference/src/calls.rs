@@ -3,6 +3,7 @@
 use crate::check;
 use crate::edit::{self, NoRoom};
 use crate::entries::MAX_LENGTH;
+use crate::free;
 use crate::layout::{Layout, Table};
 use crate::page;
 use crate::sort::Sort;
@@ -137,7 +138,7 @@ fn try_put(
     let free = layout.free_pages();
     let table = find_mut(&mut layout, name)?;
     edit::put(image, free, table, Sort::of(name), key, value)?;
-    Ok(Answer::default())
+    Ok(changed(image))
 }
 
 /// Removes a key.
@@ -156,7 +157,7 @@ fn try_remove(
     let table = find_mut(&mut layout, name)?;
     require(table.value(key).is_some(), Refusal::NoSuchKey)?;
     edit::remove(image, table, Sort::of(name), key);
-    Ok(Answer::default())
+    Ok(changed(image))
 }
 
 /// Creates a table.
@@ -169,7 +170,7 @@ fn try_create(image: &mut [u8], scratch: &mut [u8], name: &[u8]) -> Result<Answe
     require(legal_name(name), Refusal::NameOrKey)?;
     require(layout.find(name).is_none(), Refusal::TableExists)?;
     edit::create(image, &mut layout, name)?;
-    Ok(Answer::default())
+    Ok(changed(image))
 }
 
 /// Refusals 1 to 3. "The scratch's first 1024·P bytes are zero after every call but those refused
@@ -180,6 +181,13 @@ fn open(image: &[u8], scratch: &mut [u8]) -> Result<Layout, Refusal> {
     require(scratch.len() >= length, Refusal::ScratchShort)?;
     scratch[..length].fill(0);
     check::check(image).map_err(|_| Refusal::NotWellFormed)
+}
+
+/// The answer of a put, remove or create that is done but for the kept count: "Every successful put,
+/// remove and create writes it true, even if it was 0" (document 02, T-06).
+fn changed(image: &mut [u8]) -> Answer {
+    free::keep_count(image);
+    Answer::default()
 }
 
 /// The done answer, or that of the refusal.

@@ -179,17 +179,27 @@ impl Walk<'_> {
             let owned = self.owner[number as usize].is_some();
             self.expect(owned, Rule::NotOwned, number);
         }
-        Layout {
+        let layout = Layout {
             pages: self.pages,
             mounted: self.u16(SUPERBLOCK, superblock::MOUNTED),
             span_size: self.u16(SUPERBLOCK, superblock::SPAN_SIZE),
+            count_kept: self.u32(SUPERBLOCK, superblock::KEPT_COUNT) != 0,
             meta,
             tables,
             free,
-        }
+        };
+        self.kept_count(&layout);
+        layout
     }
 
-    /// The superblock's fields but for the first free-list page.
+    /// "A well-formed image has 0 or the true figure there" (document 02, T-06).
+    fn kept_count(&mut self, layout: &Layout) {
+        let kept = self.u32(SUPERBLOCK, superblock::KEPT_COUNT);
+        let holds = kept == 0 || kept == layout.true_count();
+        self.expect(holds, Rule::KeptCount, SUPERBLOCK);
+    }
+
+    /// The superblock's fields but for the first free-list page and the kept count.
     fn superblock(&mut self) {
         let bytes = page::bytes(self.image, SUPERBLOCK);
         let (major, minor) = (bytes[superblock::MAJOR], bytes[superblock::MINOR]);

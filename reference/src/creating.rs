@@ -31,8 +31,10 @@ const VALUE: usize = 4;
 const HIGHEST: usize = 6;
 
 /// The cases of a create, but for those of a name that joins the metaindex.
-const CREATES: [&str; 15] = [
+const CREATES: [&str; 17] = [
     reached::GARBAGE,
+    reached::COUNT_KEPT,
+    reached::NO_COUNT,
     "table created with span size 2",
     "table created with span size 3",
     "table created with span size 128",
@@ -184,7 +186,7 @@ fn many_names() -> Knobs {
 
 /// Images with so many empty tables, whose names fill the spans of the metaindex, and with few pages
 /// free.
-fn full_metaindex(span_size: u16, tables: usize) -> Knobs {
+pub fn full_metaindex(span_size: u16, tables: usize) -> Knobs {
     let fill = usize::from(span_size);
     let pages = 60 + 3 * tables + 3 * tables / fill;
     Knobs {
@@ -200,7 +202,7 @@ fn full_metaindex(span_size: u16, tables: usize) -> Knobs {
 }
 
 /// A create of a table whose name comes behind one in the metaindex, sometimes of that name itself.
-fn create(random: &mut Random, meta: &Table) -> Call {
+pub fn create(random: &mut Random, meta: &Table) -> Call {
     let entries = &putting::crowded_span(random, meta).entries;
     if entries.is_empty() || random.percent(15) {
         let name = generate::name(random);

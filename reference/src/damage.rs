@@ -3,6 +3,7 @@
 //! For each rule there is a damage that makes an image break it. Where it can be, no other rule is
 //! broken with it; where it cannot, the rule is among those broken.
 
+use crate::check;
 use crate::encode;
 use crate::entries::{self, MAX_LENGTH};
 use crate::free;
@@ -24,6 +25,9 @@ pub fn damage(random: &mut Random, sample: &Sample, rule: Rule) -> Option<Vec<u8
         layout: sample.layout.clone(),
     };
     work.damage(rule)?;
+    if rule != Rule::KeptCount {
+        work.count_anew();
+    }
     Some(work.image)
 }
 
@@ -113,6 +117,7 @@ impl Work<'_> {
             Rule::BlockCount => self.block_count(),
             Rule::ListedRange => self.listed_range(),
             Rule::FreeMark => self.mark(Kind::Free),
+            Rule::KeptCount => self.kept_count(),
             Rule::OwnedTwice => self.owned_twice(),
             Rule::NotOwned => self.not_owned(),
         }
@@ -154,6 +159,14 @@ impl Work<'_> {
         *self
             .random
             .pick(&[next, next, 0xffff_ffff, 0x8000_0001, next + 0x100])
+    }
+
+    /// Where a count is kept, keeps that of the free list as the damage left it.
+    fn count_anew(&mut self) {
+        if let Some((layout, _)) = check::walk(&self.image) {
+            let kept = layout.kept_count();
+            page::write_u32(&mut self.image, SUPERBLOCK, superblock::KEPT_COUNT, kept);
+        }
     }
 
     /// A number above P, or 0.
@@ -763,6 +776,25 @@ impl Work<'_> {
         let at = self.choose(&blocks)?.page;
         let number = *self.random.pick(&[253, 256, 0x1_0000, 0xffff_ffff]);
         self.set_u32(at, block::COUNT, number)
+    }
+
+    /// A kept count that is false: one more or one less, with another high half, in the other byte order,
+    /// the largest number, or any. With no page free one less is 0, which is not false.
+    fn kept_count(&mut self) -> Option<()> {
+        let right = self.layout.true_count();
+        let high = (self.random.within(1..=0xffff) as u32) << 16;
+        let any = self.random.next_u64() as u32;
+        let mut wrong = vec![
+            right + 1,
+            right - 1,
+            high | right,
+            right.swap_bytes(),
+            u32::MAX,
+            any,
+        ];
+        wrong.retain(|count| *count != 0 && *count != right);
+        let count = self.choose(&wrong)?;
+        self.set_u32(SUPERBLOCK, superblock::KEPT_COUNT, count)
     }
 
     /// A block and the offset of a number it lists.

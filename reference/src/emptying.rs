@@ -16,8 +16,10 @@ use crate::sort::Sort;
 const STILL_FULL: [usize; 4] = [2, 10, 30, 100];
 
 /// The cases that are not those of a full card.
-const FIXED: [&str; 3] = [
+const FIXED: [&str; 5] = [
     reached::GARBAGE,
+    reached::COUNT_KEPT,
+    reached::NO_COUNT,
     "key removed with pages free",
     "last key of all removed with pages free",
 ];

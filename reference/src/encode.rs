@@ -33,6 +33,12 @@ fn superblock(image: &mut [u8], layout: &Layout) {
     page::write_u16(image, SUPERBLOCK, superblock::MOUNTED, layout.mounted);
     page::write_u16(image, SUPERBLOCK, superblock::SPAN_SIZE, layout.span_size);
     page::write_u32(image, SUPERBLOCK, superblock::PAGE_SIZE, PAGE as u32);
+    page::write_u32(
+        image,
+        SUPERBLOCK,
+        superblock::KEPT_COUNT,
+        layout.kept_count(),
+    );
 }
 
 /// Writes the free-list blocks and the marks of the pages they list.

@@ -5,8 +5,10 @@ use crate::page::{Kind, METAINDEX};
 use std::collections::BTreeMap;
 
 /// All events.
-pub const ALL: [&str; 18] = [
+pub const ALL: [&str; 20] = [
     "entries changed",
+    "free count kept already",
+    "free count kept anew",
     "split",
     "split of the metaindex",
     "new tower",
@@ -29,6 +31,10 @@ pub const ALL: [&str; 18] = [
 /// The events that the layouts before and after a call show.
 pub fn events(before: &Layout, after: &Layout) -> Vec<&'static str> {
     let mut seen = vec!["entries changed"];
+    seen.push(match before.count_kept {
+        true => "free count kept already",
+        false => "free count kept anew",
+    });
     let old: BTreeMap<u32, &Table> = before.all_tables().map(|one| (one.root, one)).collect();
     for table in after.all_tables() {
         if let Some(old) = old.get(&table.root) {

@@ -29,9 +29,13 @@ fn explain_broken(image: &[u8], broken: &Broken) -> String {
 }
 
 fn explain_layout(layout: &Layout) -> String {
+    let kept = if layout.count_kept { "" } else { "not " };
     let mut text = format!(
-        "pages {}, mounted {}, span size {}\n",
-        layout.pages, layout.mounted, layout.span_size
+        "pages {}, mounted {}, span size {}, {} pages free, their count {kept}kept\n",
+        layout.pages,
+        layout.mounted,
+        layout.span_size,
+        layout.free_pages()
     );
     text.push_str("metaindex\n");
     text.push_str(&explain_table(Sort::Bytes, &layout.meta));

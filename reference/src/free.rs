@@ -1,4 +1,5 @@
-//! Take and give back, as document 01 states them on the bytes of a well-formed image.
+//! Take and give back, as document 01 states them on the bytes of a well-formed image, and the kept
+//! count of the free pages.
 
 use crate::page::{self, block, superblock, Kind, MAX_NUMBERS, SUPERBLOCK};
 
@@ -36,4 +37,22 @@ pub fn give_back(image: &mut [u8], given: u32) {
         page::write_u32(image, given, block::COUNT, 0);
         page::write_u32(image, SUPERBLOCK, superblock::FIRST_BLOCK, given);
     }
+}
+
+/// F, "listed pages plus free-list blocks", as the blocks themselves say.
+fn count(image: &[u8]) -> u32 {
+    let mut free = 0;
+    let mut number = page::read_u32(image, SUPERBLOCK, superblock::FIRST_BLOCK);
+    while number != 0 {
+        free += 1 + page::read_u32(image, number, block::COUNT);
+        number = page::read_u32(image, number, block::NEXT);
+    }
+    free
+}
+
+/// "Keep it in superblock bytes 28–31: 0 means not kept, otherwise it is F plus 1" (document 02, T-06):
+/// writes the true figure.
+pub fn keep_count(image: &mut [u8]) {
+    let kept = count(image) + 1;
+    page::write_u32(image, SUPERBLOCK, superblock::KEPT_COUNT, kept);
 }

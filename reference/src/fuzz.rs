@@ -4,6 +4,7 @@ use crate::audit;
 use crate::calls::Answer;
 use crate::check::check;
 use crate::compare::tally::add_all;
+use crate::counting;
 use crate::damage;
 use crate::emptying;
 use crate::events;
@@ -35,6 +36,8 @@ pub struct Tally {
     pub emptying: Cases,
     /// What the lists on offset tables reached.
     pub offsets: Cases,
+    /// What the lists about the free count reached.
+    pub counting: Cases,
     /// What the searches by towers reached.
     pub searches: Cases,
     /// Damaged images by rule.
@@ -69,6 +72,7 @@ pub fn fuzz(seed: u64, count: u64) -> Result<Tally, Failure> {
         run_list(script::script(seed, CALLS), &mut tally).map_err(failure)?;
         run_emptying(seed, &mut tally).map_err(failure)?;
         run_offsets(seed, &mut tally).map_err(failure)?;
+        run_counting(seed, &mut tally).map_err(failure)?;
         run_damage(seed, &mut tally).map_err(failure)?;
         add_all(&mut tally.searches, agree::searches(seed, 1)?);
     }
@@ -89,6 +93,14 @@ fn run_offsets(seed: u64, tally: &mut Tally) -> Result<(), String> {
     let (script, cases) = offsets::script(seed);
     run_list(script, tally).map_err(|what| format!("offsets, {what}"))?;
     add_all(&mut tally.offsets, cases);
+    Ok(())
+}
+
+/// The list of this seed about the free count.
+fn run_counting(seed: u64, tally: &mut Tally) -> Result<(), String> {
+    let (script, cases) = counting::script(seed);
+    run_list(script, tally).map_err(|what| format!("counting, {what}"))?;
+    add_all(&mut tally.counting, cases);
     Ok(())
 }
 

@@ -336,10 +336,12 @@ fn number(
         number_pages(table, &mut unused);
     }
     let names = name_tables(&mut meta, &tables);
+    let (mounted, count_kept) = *random.pick(&[(0, false), (0, true), (1, false), (1, true)]);
     Layout {
         pages: pages as u32,
-        mounted: random.below(2) as u16,
+        mounted,
         span_size: *random.pick(span_sizes),
+        count_kept,
         meta,
         tables: names.into_iter().zip(tables).collect(),
         free: free_list(random, unused),

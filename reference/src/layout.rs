@@ -13,6 +13,8 @@ pub struct Layout {
     pub mounted: u16,
     /// The superblock's span size, for created tables.
     pub span_size: u16,
+    /// Whether the superblock keeps the free count.
+    pub count_kept: bool,
     /// The metaindex.
     pub meta: Table,
     /// The tables by name, in the order of the metaindex.
@@ -63,6 +65,19 @@ impl Layout {
     /// F, "listed pages plus free-list blocks".
     pub fn free_pages(&self) -> usize {
         self.free.iter().map(|block| 1 + block.listed.len()).sum()
+    }
+
+    /// The kept count that is true of these free pages, "F plus 1" (document 02, T-06).
+    pub fn true_count(&self) -> u32 {
+        self.free_pages() as u32 + 1
+    }
+
+    /// The kept count: "0 means not kept".
+    pub fn kept_count(&self) -> u32 {
+        match self.count_kept {
+            true => self.true_count(),
+            false => 0,
+        }
     }
 
     /// The number of keys, the metaindex not counted.

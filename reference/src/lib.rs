@@ -8,6 +8,7 @@ pub mod bench;
 pub mod calls;
 pub mod check;
 pub mod compare;
+pub mod counting;
 pub mod creating;
 pub mod damage;
 pub mod edit;

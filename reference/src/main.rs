@@ -6,7 +6,7 @@ use reference::fuzz::{self, Failure, Tally};
 use reference::rule::Rule;
 use reference::towers::agree;
 use reference::{
-    bench, emit, emptying, events, explain, offsets, program, samples, theorems as text,
+    bench, counting, emit, emptying, events, explain, offsets, program, samples, theorems as text,
 };
 use std::env;
 use std::fs;
@@ -17,8 +17,8 @@ const USAGE: &str = "usage:
   reference check FILE          the program's line for this image
   reference explain FILE        the layout, or every broken rule
   reference emit DIR SEED N     N images with the program's lines
-  reference fuzz SEED N         N lists of calls, N that empty full cards, N on offset tables,
-                                N damaged images, N images searched by towers
+  reference fuzz SEED N         N lists of calls, N that empty full cards, N on offset tables, N about
+                                the free count, N damaged images, N images searched by towers
   reference compare P SEED N    N images, lists of calls, pairs of keys against P, twin or library
   reference bench               times of the twin and the library, in Markdown
   reference samples DIR         the sample cards with the program's lines
@@ -78,6 +78,7 @@ fn fuzz(seed: &str, count: &str) -> Result<(), String> {
     for (reached, all) in [
         (&tally.emptying, emptying::all()),
         (&tally.offsets, offsets::all()),
+        (&tally.counting, counting::all()),
         (&tally.searches, agree::all()),
     ] {
         print!("{}", tally::cases_table(reached, &all));
@@ -93,6 +94,10 @@ fn compare(other: &str, seed: &str, count: &str) -> Result<(), String> {
     let command = format!("compare {}", other.name);
     let failed = |failure| again(&command, failure);
     let mut tally = compare::images(&other, seed, count).map_err(failed)?;
+    print!(
+        "{}",
+        tally::cases_table(&tally.cases, &counting::accepted())
+    );
     tally.add(compare::lists(&other, seed, count).map_err(failed)?);
     tally.add(compare::long_lists(&other, seed, count.div_ceil(100)).map_err(failed)?);
     tally.add(compare::read_lists(&other, seed, count).map_err(failed)?);

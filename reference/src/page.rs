@@ -24,6 +24,7 @@ pub mod superblock {
     pub const MOUNTED: usize = 20;
     pub const SPAN_SIZE: usize = 22;
     pub const PAGE_SIZE: usize = 24;
+    pub const KEPT_COUNT: usize = 28;
 }
 
 /// Offsets of the fields on a skip-list page.

@@ -46,8 +46,10 @@ pub const JOINING: [&str; 14] = [
 ];
 
 /// The other cases, but for the heights of towers.
-const OTHERS: [&str; 16] = [
+const OTHERS: [&str; 18] = [
     reached::GARBAGE,
+    reached::COUNT_KEPT,
+    reached::NO_COUNT,
     "value replaced",
     "value replaced on fewer pages",
     "value replaced on as many pages",
@@ -138,7 +140,7 @@ pub fn spans_of_128(random: &mut Random) -> Sample {
 }
 
 /// A put into a table, if there is one.
-fn put(random: &mut Random, layout: &Layout) -> Option<Call> {
+pub fn put(random: &mut Random, layout: &Layout) -> Option<Call> {
     if layout.tables.is_empty() {
         return None;
     }

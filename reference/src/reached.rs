@@ -17,6 +17,10 @@ pub type Cases = BTreeMap<String, u64>;
 
 /// The case of an image whose unused bytes are not all 0.
 pub const GARBAGE: &str = "garbage in unused bytes";
+/// The case of an image that keeps the free count.
+pub const COUNT_KEPT: &str = "free count kept at first";
+/// The case of an image that does not keep it.
+pub const NO_COUNT: &str = "free count not kept at first";
 
 /// A call that was made by this program, with the layouts before and after it.
 pub struct Made<'a> {
@@ -51,7 +55,7 @@ pub fn list(
     mut reached: impl FnMut(&Made<'_>) -> Vec<String>,
 ) -> (Script, Cases) {
     let mut cases = Cases::new();
-    count(&mut cases, held(&[(GARBAGE, has_garbage(&sample))]));
+    count(&mut cases, of_image(&sample));
     let mut image = sample.image.clone();
     let mut layout = sample.layout.clone();
     let mut ledger = Ledger::new(u64::from(layout.pages), tables_of(&layout));
@@ -86,6 +90,16 @@ pub(crate) fn count<K: Ord>(counts: &mut BTreeMap<K, u64>, reached: impl IntoIte
     for one in reached {
         *counts.entry(one).or_default() += 1;
     }
+}
+
+/// What the image of a list is like.
+fn of_image(sample: &Sample) -> Vec<String> {
+    let is_kept = sample.layout.count_kept;
+    held(&[
+        (GARBAGE, has_garbage(sample)),
+        (COUNT_KEPT, is_kept),
+        (NO_COUNT, !is_kept),
+    ])
 }
 
 /// Whether bytes that the layout does not say are not 0.

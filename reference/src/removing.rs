@@ -64,8 +64,10 @@ pub const ON_FULL_TOO: [&str; 36] = [
 ];
 
 /// The other cases, but for the ends of pages and the heights of towers.
-const FIXED: [&str; 9] = [
+const FIXED: [&str; 11] = [
     reached::GARBAGE,
+    reached::COUNT_KEPT,
+    reached::NO_COUNT,
     "tower unlinked, the head's max height 3",
     "given back to an empty block",
     "given back to a block with room for one",

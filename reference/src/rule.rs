@@ -5,7 +5,7 @@ use std::fmt;
 /// Makes the enum `Rule`, the list of all rules, and what each says.
 macro_rules! rules {
     ($($name:ident: $says:expr;)*) => {
-        /// A rule of document 01, or of T-05 of document 02, that an image can break.
+        /// A rule of document 01, or of T-05 or T-06 of document 02, that an image can break.
         #[derive(Clone, Copy, Debug, PartialEq, Eq, PartialOrd, Ord, Hash)]
         pub enum Rule {
             $(#[doc = $says] $name,)*
@@ -92,6 +92,7 @@ rules! {
     BlockCount: "a block's count is 0 to 252";
     ListedRange: "a listed page is 1 to P";
     FreeMark: "a listed free page bears the free mark";
+    KeptCount: "the kept free count is 0, for not kept, or the number of free pages plus 1";
 
     OwnedTwice: "no page is owned twice";
     NotOwned: "every page is owned";

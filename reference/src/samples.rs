@@ -6,7 +6,7 @@ use crate::encode;
 use crate::entries::Entry;
 use crate::layout::{Block, Layout, Span, Table, Tower};
 use crate::numbers;
-use crate::page::{self, skip_list, span, METAINDEX, PAGE};
+use crate::page::{self, skip_list, span, superblock, METAINDEX, PAGE, SUPERBLOCK};
 use crate::program;
 use std::fs;
 use std::io;
@@ -48,6 +48,10 @@ pub fn samples() -> Vec<Sample> {
         sample("offsets", offsets(), "pages 16 tables 1 keys 12 free 4"),
         sample("offsets-by-bytes", offsets_by_bytes(), "refused 3"),
         sample("towers", towers(), "pages 32 tables 2 keys 26 free 2"),
+        sample("count", with_count(5), "pages 8 tables 0 keys 0 free 4"),
+        sample("count-off-by-one", with_count(4), "refused 3"),
+        sample("count-garbage", with_count(0xa5a5_a5a5), "refused 3"),
+        sample("count-largest", with_count(u32::MAX), "refused 3"),
         sample("empty-file", Vec::new(), "refused 1"),
         sample("ring-of-spans", ring_of_spans(&cameras), "refused 3"),
         sample("cut-in-a-page", cameras[..20_000].to_vec(), "refused 1"),
@@ -70,7 +74,8 @@ pub fn write(folder: &Path) -> io::Result<()> {
     Ok(())
 }
 
-/// "An empty metaindex on pages 2 to 4, and page 5 a free-list block listing" the others.
+/// "An empty metaindex on pages 2 to 4, and page 5 a free-list block listing" the others. The free count
+/// is not kept.
 fn blank(pages: u32) -> Vec<u8> {
     let first = Span {
         page: 3,
@@ -87,6 +92,7 @@ fn blank(pages: u32) -> Vec<u8> {
         pages,
         mounted: 0,
         span_size: SPAN_SIZE,
+        count_kept: false,
         meta: Table {
             root: METAINDEX,
             span_size: 16,
@@ -101,6 +107,13 @@ fn blank(pages: u32) -> Vec<u8> {
     };
     let mut image = vec![0; PAGE * pages as usize];
     encode::layout(&mut image, &layout);
+    image
+}
+
+/// A blank card, with four pages free, on which this figure is the kept count.
+fn with_count(count: u32) -> Vec<u8> {
+    let mut image = blank(8);
+    page::write_u32(&mut image, SUPERBLOCK, superblock::KEPT_COUNT, count);
     image
 }
 

@@ -21,13 +21,13 @@ use std::fmt::{Display, Write};
 const HEAD: &str = include_str!("theorems-head.txt");
 
 /// The definitions that the checker opens to compute an outcome.
-const OUTCOME: &str = "outcomeOn onTable ledgerOf refused freeCount lacks layoutAfter writesOf putPlan removePlan unlinkPlan unlinking \
+const OUTCOME: &str = "outcomeOn onTable ledgerOf refused freeCount lacks layoutAfter writesOf changesOf putPlan removePlan unlinkPlan unlinking \
 createPlan wholeTable rewritePlan target spanAt parts wantedBy share towerHeight trailingZeros reached lensAt entryEnd draw rewrite tableAfter \
 rewriting relink nameRule keyRule wholeSpan wholeTower wholeSkipList counts word32 word16 superMark skipMark towerMark spanMark contMark blockMark \
 freeMark";
 
 /// The definitions that the checker opens to read an image.
-const IMAGE: &str = "be16 be32 be64 word32 reached lensAt entryEnd nameRule keyRule superMark skipMark towerMark spanMark contMark blockMark freeMark";
+const IMAGE: &str = "be16 be32 be64 word32 freeCount reached lensAt entryEnd nameRule keyRule superMark skipMark towerMark spanMark contMark blockMark freeMark";
 
 /// The definitions that the checker opens to compute a path.
 const PATH: &str = "path passed nameRule keyRule";
@@ -218,8 +218,8 @@ fn key(random: &mut Random, layout: &Layout, name: &[u8]) -> Vec<u8> {
     key
 }
 
-/// The theorems on one image: it bears its layout, which keeps the rules; and what the call
-/// answers, writes and leaves.
+/// The theorems on one image: it bears its layout, which keeps the rules, and its count of free pages;
+/// and what the call answers, writes and leaves.
 fn claims(text: &mut String, number: u64, image: &[u8], layout: &Layout, call: Call, room: usize) {
     let operation = operation(&call);
     let request = Request {
@@ -292,6 +292,16 @@ fn claims(text: &mut String, number: u64, image: &[u8], layout: &Layout, call: C
         &format!("Every (Bears (λ n. getD before{number} (n - 1) [])) (pieces L{number})"),
         &opened,
         &bears_text(layout),
+    );
+    theorem(
+        text,
+        &format!("kept{number}"),
+        &format!("Kept (freeCount (L{number} .free)) (be32 (getD before{number} 0 []) 28)"),
+        &opened,
+        match layout.count_kept {
+            false => "inl refl",
+            true => "inr refl",
+        },
     );
     theorem(
         text,

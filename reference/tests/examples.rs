@@ -131,6 +131,7 @@ fn create_lens_byte_by_byte() {
     let mut image = card(8, 16);
     let mut expected = image.clone();
     assert_eq!(create(&mut image, b"lens"), 0);
+    write(&mut expected, 1, 28, &[0, 0, 0, 2]);
     write(&mut expected, 2, 16, &[0, 0, 0, 1, 0, 0, 0, 1, 0, 0, 0, 1]);
     write(&mut expected, 5, 12, &[0, 0, 0, 0]);
     for page in [3, 6, 7, 8] {

@@ -12,9 +12,10 @@ use common::{assert_covered, assert_reached, in_two};
 use reference::compare::cases::Source;
 use reference::compare::tally::{calls_table, images_table, Tally};
 use reference::compare::{
-    create_lists, empty_lists, images, key_pairs, lengths, lists, long_lists, offset_lists,
-    offset_pairs, present_lengths, put_lists, read_lists, remove_lists, Compare,
+    count_lists, create_lists, empty_lists, images, key_pairs, lengths, lists, long_lists,
+    offset_lists, offset_pairs, present_lengths, put_lists, read_lists, remove_lists, Compare,
 };
+use reference::counting;
 use reference::creating;
 use reference::emptying;
 use reference::library::LIBRARY;
@@ -45,6 +46,8 @@ const FULL_CARDS: u64 = 4_000;
 const CREATE_LISTS: u64 = 50_000;
 /// How many lists on offset tables are run.
 const OFFSET_LISTS: u64 = 20_000;
+/// How many lists about the free count are run.
+const COUNT_LISTS: u64 = 20_000;
 /// How many lengths keys have that are put and read, up to the greatest.
 const PRESENT: u64 = 2_114;
 
@@ -78,6 +81,7 @@ fn images_are_checked_alike() {
     for pages in [0, 4, 4096] {
         assert!(tally.sizes[&pages] > 10, "{pages} pages");
     }
+    assert_reached(&tally, &counting::accepted());
 }
 
 #[test]
@@ -149,6 +153,13 @@ fn calls_on_offset_tables_have_the_same_outcome() {
         assert_answered(&tally, kind, &[0, 2, 4, 6], 200);
     }
     assert_reached(&tally, &offsets::all());
+}
+
+#[test]
+fn counts_are_kept_alike() {
+    let tally = compared(1, COUNT_LISTS, count_lists);
+    println!("{}", calls_table(&tally.calls));
+    assert_reached(&tally, &counting::all());
 }
 
 #[test]

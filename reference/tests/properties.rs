@@ -7,7 +7,8 @@ use reference::audit::{audit, reach};
 use reference::calls::Answer;
 use reference::check::check;
 use reference::compare::programs::REFERENCE;
-use reference::compare::{offset_lists, offset_pairs};
+use reference::compare::{count_lists, offset_lists, offset_pairs};
+use reference::counting;
 use reference::damage;
 use reference::emptying;
 use reference::encode;
@@ -16,7 +17,7 @@ use reference::events;
 use reference::explain::explain;
 use reference::fuzz::{accepted, damaged, fuzz, run_call, verdicts_agree};
 use reference::generate::{self, Knobs, Sample, HASH_NAMES, NEAR_END};
-use reference::layout::{Span, Table, Tower};
+use reference::layout::{Layout, Span, Table, Tower};
 use reference::ledger::{tables_of, Ledger};
 use reference::offsets::{self, before_page_end};
 use reference::page::{kind_of, write_u32, Kind, MARKS};
@@ -71,6 +72,13 @@ fn lists_of_calls_and_damaged_images() {
 fn lists_on_offset_tables() {
     let tally = in_two(&REFERENCE, 1, 3000, offset_lists);
     assert_reached(&tally, &offsets::all());
+}
+
+/// The lists about the free count reach all their cases.
+#[test]
+fn lists_about_the_free_count() {
+    let tally = in_two(&REFERENCE, 1, 5000, count_lists);
+    assert_reached(&tally, &counting::all());
 }
 
 /// The pairs of numbers are all of those wanted, and the reference answers what was meant.
@@ -439,6 +447,8 @@ fn the_audit_sees_stray_bytes() {
         after[at] ^= 0x10;
     }
     assert!(!passes(&before.image));
+    write_u32(&mut after, 1, 28, 0);
+    assert!(check(&after).is_ok() && !passes(&after), "count not kept");
     let refused = Answer {
         number: 10,
         ..Answer::default()
@@ -467,8 +477,9 @@ fn note(seen: &mut BTreeMap<String, u64>, sample: &Sample) {
         "name of 255",
         layout.tables.iter().any(|(name, _)| name.len() == 255),
     );
-    let unused_page_1 = &sample.image[28..1024];
+    let unused_page_1 = &sample.image[32..1024];
     add("garbage", unused_page_1.iter().any(|byte| *byte != 0));
+    note_count(&mut add, layout);
     for size in [2, 3, 128] {
         let what = format!("span size {size}");
         add(
@@ -487,6 +498,15 @@ fn note(seen: &mut BTreeMap<String, u64>, sample: &Sample) {
             Sort::Numbers => note_offsets(&mut add, table),
         }
     }
+}
+
+fn note_count(add: &mut impl FnMut(&str, bool), layout: &Layout) {
+    let (free, is_kept) = (layout.free_pages(), layout.count_kept);
+    add("count kept", is_kept);
+    add("count not kept", !is_kept);
+    add("count kept, no page free", is_kept && free == 0);
+    add("count not kept, no page free", !is_kept && free == 0);
+    add("count kept, in more than one byte", is_kept && free > 254);
 }
 
 fn note_name(add: &mut impl FnMut(&str, bool), name: &[u8]) {

@@ -2,6 +2,7 @@
 
 use reference::calls;
 use reference::check::check;
+use reference::page::read_u32;
 use reference::program::line;
 use reference::rule::Rule;
 use reference::samples::samples;
@@ -67,9 +68,35 @@ fn offsets_are_gone_through_as_numbers() {
 
 #[test]
 fn offsets_in_byte_order_break_the_order_alone() {
-    let broken = check(&card("offsets-by-bytes")).expect_err("refused");
-    let rules: Vec<Rule> = broken.iter().map(|one| one.rule).collect();
-    assert_eq!(rules, [Rule::OffsetsRising]);
+    assert_eq!(broken("offsets-by-bytes"), [Rule::OffsetsRising]);
+}
+
+/// The rules that the sample card of this name breaks.
+fn broken(name: &str) -> Vec<Rule> {
+    let broken = check(&card(name)).expect_err("refused");
+    broken.iter().map(|one| one.rule).collect()
+}
+
+/// The blank card keeps no count; the others keep F plus 1, so the full card keeps 1.
+#[test]
+fn counts_are_kept_or_not() {
+    for (name, count) in [
+        ("blank", 0),
+        ("lens", 2),
+        ("cameras", 12),
+        ("full", 1),
+        ("count", 5),
+    ] {
+        let card = card(name);
+        assert_eq!(read_u32(&card, 1, 28), count, "{name}");
+    }
+}
+
+#[test]
+fn false_counts_break_their_rule_alone() {
+    for name in ["count-off-by-one", "count-garbage", "count-largest"] {
+        assert_eq!(broken(name), [Rule::KeptCount], "{name}");
+    }
 }
 
 /// The searches agree on the card, and it has what the searches are to be tried on.

@@ -232,6 +232,7 @@ fn a_page_given_back_to_a_full_block_becomes_the_first() {
     assert_eq!(old.len(), 3);
     image.resize(263 * 1024, 0);
     write(&mut image, 1, 8, &(263 * 1024_u64).to_be_bytes());
+    write(&mut image, 1, 28, &[0; 4]);
     write(&mut image, 5, 12, &[0, 0, 0, 252]);
     for page in 258..=263_usize {
         write(

@@ -9,6 +9,7 @@ use reference::check::check;
 use reference::compare::cases::{case, Source};
 use reference::compare::programs::{Program, BYTE_LOOP, REFERENCE, TWIN};
 use reference::compare::{images, key_pairs, lists, long_lists, AIMED};
+use reference::counting;
 use reference::events;
 use reference::generate::{self, Knobs};
 use reference::page::write_u32;
@@ -30,6 +31,7 @@ fn images_are_checked_alike() {
     assert!(count(Source::OddLength, 1) > 20);
     assert!(count(Source::Noise, 3) > 20);
     assert!(tally.sizes.contains_key(&4) && tally.sizes.contains_key(&4096));
+    assert_reached(&tally, &counting::accepted());
 }
 
 #[test]

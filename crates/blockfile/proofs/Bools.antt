@@ -2,7 +2,8 @@
 use Prim.Native.Nat.{ℕ, _≤_}
 use native.Mathlib.Omega.{arith}
 use mathlib.Core.Path.{_≡_, refl, ap₂, sym}
-use mathlib.Core.Bool.{Bool, true, false, cond, _&&_, true≢false}
+use mathlib.Core.Logic.{_⊎_, inl, inr}
+use mathlib.Core.Bool.{Bool, true, false, cond, _&&_, _||_, true≢false}
 use mathlib.Core.List.{List, [], _∷_}
 use lib.Dec.{T, eqb, leb, leb→le, eqb→eq, eqb-refl}
 use Rattle.blockfile.specs.Order.{Within, within, same}
@@ -28,6 +29,18 @@ pub both-and : (a b : Bool) → T a → T b → T (a && b)
 both-and true true h k = tt
 both-and true false h k = absurd k
 both-and false b h k = absurd h
+
+pub or-either : (a b : Bool) → T (a || b) → T a ⊎ T b
+or-either true b h = inl tt
+or-either false b h = inr h
+
+pub or-left : (a b : Bool) → T a → T (a || b)
+or-left true b h = tt
+or-left false b h = absurd h
+
+pub or-right : (a b : Bool) → T b → T (a || b)
+or-right true b h = tt
+or-right false b h = h
 
 -- a number by a test is at most 1, and at least 1 only where the test holds
 pub bit-low : (b : Bool) → cond b 1 0 ≤ 1

@@ -14,7 +14,7 @@ use Rattle.blockfile.specs.Order.{nameRule, keyRule}
 use Rattle.blockfile.specs.WellFormed.{WellFormed}
 use Rattle.blockfile.specs.Free.{draw}
 use Rattle.blockfile.specs.Encode.{wholeSpan, wholeTower, wholeSkipList, counts}
-use Rattle.blockfile.specs.Plan.{layoutAfter, writesOf, lacks}
+use Rattle.blockfile.specs.Plan.{layoutAfter, changesOf, writesOf, lacks}
 use Rattle.blockfile.specs.Put.{parts, target, spanAt, wantedBy, share, tableAfter, relink, rewriting, rewrite}
 use Rattle.blockfile.specs.Create.{createPlan, wholeTable}
 use Rattle.blockfile.specs.Refusals.{check, create, plain, ledgerOf, refused}
@@ -77,10 +77,11 @@ lensWrites =
     ∷ on 8 0 (skipPage 7 6 0 1 1 32)
     ∷ on 7 0 (spanPage 0 0 0 32 0 [])
     ∷ on 6 0 (towerPage 12 0 7 [])
+    ∷ on 1 28 (word32 2)
     ∷ []
 
 written : writesOf layout (createPlan layout lens) ≡ lensWrites
-unfolding writesOf createPlan target spanAt parts wantedBy share reached lensAt entryEnd draw rewrite tableAfter rewriting relink wholeTable nameRule wholeSpan wholeTower wholeSkipList counts word32 word16 skipMark towerMark spanMark contMark
+unfolding writesOf changesOf freeCount createPlan target spanAt parts wantedBy share reached lensAt entryEnd draw rewrite tableAfter rewriting relink wholeTable nameRule wholeSpan wholeTower wholeSkipList counts word32 word16 skipMark towerMark spanMark contMark
 written = refl
 
 -- writes in range, by parts of the image
@@ -124,7 +125,7 @@ quickly (w ∷ ws) img h =
 -- all 8,192 bytes after it
 abbrev imageWithLens : List ℕ
 imageWithLens =
-    superPage 8 5 0 32
+    overlay 28 (word32 2) (superPage 8 5 0 32)
     ++ skipPage 3 4 1 1 1 32
     ++ spanPage 0 0 0 32 1 (entryBytes lens (word32 8))
     ++ towerPage 12 0 3 []
@@ -138,7 +139,7 @@ unfolding superMark skipMark towerMark spanMark blockMark freeMark word32 word16
 bytes = ap (λ (ws : List Write). apply ws image) written ∙ quickly lensWrites image tt ∙ refl
 
 wellWithLens : WellFormed imageWithLens layoutWithLens
-unfolding superMark skipMark towerMark spanMark contMark blockMark freeMark word32 word16 pg be32 be16 be64 reached lensAt entryEnd nameRule keyRule
+unfolding superMark skipMark towerMark spanMark contMark blockMark freeMark word32 word16 pg be32 be16 be64 freeCount reached lensAt entryEnd nameRule keyRule
 wellWithLens = tested imageWithLens layoutWithLens tt
 
 -- ---- What the calls answer: pages 8 tables 0 keys 0 free 4, then done, then pages 8 tables 1 keys 0 free 1

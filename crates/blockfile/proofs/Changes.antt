@@ -2,21 +2,23 @@
 use Prim.Native.Nat.{ℕ}
 use mathlib.Core.Path.{_≡_, refl}
 use mathlib.Core.List.{List, [], _∷_, _++_, map}
+use mathlib.Core.Bool.{cond, _&&_}
 use lib.ListN.{replicate}
+use lib.Dec.{eqb}
 use lib.Count.{trailingZeros}
-use Rattle.blockfile.specs.Bytes.{pg, be16, be32, be64, word16, word32, Write, on}
+use Rattle.blockfile.specs.Bytes.{pg, be16, be32, be64, word16, word32, Write, on, gather}
 use Rattle.blockfile.specs.Marks.{superMark, skipMark, towerMark, spanMark, contMark, blockMark, freeMark}
 use Rattle.blockfile.specs.Layout.{Entry, Span, Table, Block, Layout, lensAt, entryEnd, reached, freeCount}
 use Rattle.blockfile.specs.Order.{nameRule, keyRule}
 use Rattle.blockfile.specs.WellFormed.{WellFormed}
 use Rattle.blockfile.specs.Free.{draw}
-use Rattle.blockfile.specs.Encode.{wholeSpan, wholeTower, counts}
-use Rattle.blockfile.specs.Plan.{Plan, layoutAfter, writesOf, lacks}
+use Rattle.blockfile.specs.Encode.{wholeSpan, wholeTower, wholeSkipList, counts}
+use Rattle.blockfile.specs.Plan.{Plan, layoutAfter, changesOf, writesOf, lacks}
 use Rattle.blockfile.specs.Put.{parts, towerHeight, target, spanAt, wantedBy, share, tableAfter, relink, rewriting, rewrite, rewritePlan, putPlan}
 use Rattle.blockfile.specs.Remove.{removePlan, unlinkPlan, unlinking}
-use Rattle.blockfile.specs.Create.{createPlan}
-use Rattle.blockfile.specs.Refusals.{Op, get, put, remove, next, create, Reply, ledgerOf, refused}
-use Rattle.blockfile.specs.Answers.{outcomeOn, onTable}
+use Rattle.blockfile.specs.Create.{createPlan, wholeTable}
+use Rattle.blockfile.specs.Refusals.{Op, get, put, remove, next, create, ledgerOf, refused}
+use Rattle.blockfile.specs.Answers.{Outcome, outcomeOn, onTable}
 use Rattle.blockfile.proofs.Tested.{tested}
 use Rattle.blockfile.proofs.Samples.{superPage, skipPage, towerPage, spanPage, contPage, entryBytes, spanOf, towerOf, bare, towered, tableOf, blockOf, small, lens}
 
@@ -48,7 +50,7 @@ imageOfThree =
     ++ towerPage 3 2 6 (0 ∷ 0 ∷ [])
 
 wellOfThree : WellFormed imageOfThree (cardOf 8 three [])
-unfolding superMark skipMark towerMark spanMark contMark blockMark freeMark word32 word16 pg be32 be16 be64 reached lensAt entryEnd nameRule keyRule
+unfolding superMark skipMark towerMark spanMark contMark blockMark freeMark word32 word16 pg be32 be16 be64 freeCount reached lensAt entryEnd nameRule keyRule
 wellOfThree = tested imageOfThree (cardOf 8 three []) tt
 
 -- the long entry removed: the others fit one page, and the continuation page becomes the first block
@@ -57,8 +59,9 @@ shortened : writesOf (cardOf 8 three []) (removePlan (cardOf 8 three []) lens th
     ∷ on 1 16 (word32 7)
     ∷ on 6 0 (spanPage 0 0 0 32 2 (entryBytes (0x62 ∷ []) [] ++ entryBytes (0x63 ∷ []) (7 ∷ 9 ∷ [])))
     ∷ on 5 16 (word32 2 ++ word32 1 ++ word32 1)
+    ∷ on 1 28 (word32 2)
     ∷ []
-unfolding writesOf removePlan rewritePlan target spanAt parts wantedBy share reached lensAt entryEnd draw rewrite tableAfter rewriting relink nameRule keyRule wholeSpan counts word32 word16 spanMark contMark blockMark
+unfolding writesOf changesOf freeCount removePlan rewritePlan target spanAt parts wantedBy share reached lensAt entryEnd draw rewrite tableAfter rewriting relink nameRule keyRule wholeSpan counts word32 word16 spanMark contMark blockMark
 shortened = refl
 
 -- ---- Splits on tables of span size 2. A block on page 9 lists 10 and 11
@@ -125,9 +128,10 @@ fourth : puts threeSpans 0x64 4
           ∷ on 7 20 (word32 10)
           ∷ on 7 10 (word16 2)
           ∷ on 5 16 (word32 6 ++ word32 4 ++ word32 4)
+          ∷ on 1 28 (word32 2)
           ∷ [],
     )
-unfolding layoutAfter writesOf putPlan rewritePlan target spanAt parts wantedBy share towerHeight trailingZeros reached lensAt entryEnd draw rewrite tableAfter rewriting relink nameRule keyRule wholeSpan wholeTower counts word32 word16 spanMark contMark towerMark
+unfolding layoutAfter writesOf changesOf freeCount putPlan rewritePlan target spanAt parts wantedBy share towerHeight trailingZeros reached lensAt entryEnd draw rewrite tableAfter rewriting relink nameRule keyRule wholeSpan wholeTower counts word32 word16 spanMark contMark towerMark
 fourth = refl
 
 -- "e" removed again: its span and tower are unlinked and given back; the head's height stays
@@ -148,9 +152,10 @@ unlinked : removes fourSpans noneListed 0x65
           ∷ on 13 16 (word32 15)
           ∷ on 7 20 (word32 0)
           ∷ on 5 16 (word32 5 ++ word32 3 ++ word32 3)
+          ∷ on 1 28 (word32 4)
           ∷ [],
     )
-unfolding layoutAfter writesOf removePlan unlinkPlan unlinking relink target spanAt draw nameRule keyRule counts word32
+unfolding layoutAfter writesOf changesOf freeCount removePlan unlinkPlan unlinking relink target spanAt draw nameRule keyRule counts word32
 unlinked = refl
 
 -- a key present in a full span has its value replaced, here by an equal one: no split, and the span is written whole
@@ -159,9 +164,10 @@ replaced : puts threeSpans 0x65 5
       cardOf 20 threeSpans twoFree,
       on 12 0 (spanPage 0 6 14 2 2 (entryBytes (0x63 ∷ []) (3 ∷ []) ++ entryBytes (0x65 ∷ []) (5 ∷ [])))
           ∷ on 5 16 (word32 5 ++ word32 3 ++ word32 3)
+          ∷ on 1 28 (word32 4)
           ∷ [],
     )
-unfolding layoutAfter writesOf putPlan rewritePlan target spanAt parts wantedBy share reached lensAt entryEnd draw rewrite tableAfter rewriting relink nameRule keyRule wholeSpan counts word32 word16 spanMark contMark
+unfolding layoutAfter writesOf changesOf freeCount putPlan rewritePlan target spanAt parts wantedBy share reached lensAt entryEnd draw rewrite tableAfter rewriting relink nameRule keyRule wholeSpan counts word32 word16 spanMark contMark
 replaced = refl
 
 -- old continuation pages come first: that of the span which is split becomes the new span's page
@@ -182,9 +188,10 @@ emptied : removes (tableOf 5 2 (spanOf 6 (8 ∷ []) (longC ∷ [])) (towerOf 7 1
           ∷ on 9 12 (word32 1)
           ∷ on 6 0 (spanPage 0 0 0 2 0 [])
           ∷ on 5 16 (word32 0 ++ word32 1 ++ word32 1)
+          ∷ on 1 28 (word32 3)
           ∷ [],
     )
-unfolding layoutAfter writesOf removePlan rewritePlan target spanAt parts wantedBy share reached lensAt entryEnd draw rewrite tableAfter rewriting relink nameRule keyRule wholeSpan counts word32 word16 spanMark contMark
+unfolding layoutAfter writesOf changesOf freeCount removePlan rewritePlan target spanAt parts wantedBy share reached lensAt entryEnd draw rewrite tableAfter rewriting relink nameRule keyRule wholeSpan counts word32 word16 spanMark contMark
 emptied = refl
 
 -- a span that goes: its continuation page is given back, then the span, then its tower
@@ -236,47 +243,54 @@ givesFirst : draw (5 ∷ []) 0 [] []
 unfolding draw
 givesFirst = refl
 
--- ---- Refusals, the lowest first, on the card of the three entries. Each row: the call and the answer buffer's length; the
--- free list; the number and the length of the answer
+-- ---- Refusals, the lowest first, and the count of free pages, on the card of the three entries. Each row: the call and the answer
+-- buffer's length; the free list; the number and the length of the answer, and the count that is written, if any is
 
 abbrev Row : Type 0
-Row = Op × ℕ × List Block × (ℕ × ℕ)
+Row = Op × ℕ × List Block × (ℕ × ℕ × List ℕ)
 
-abbrev said : Row → ℕ × ℕ
+-- what is written at byte 28 of page 1
+abbrev countsIn : List Write → List ℕ
+countsIn ws = gather (λ (w : Write). cond (eqb (w .page) 1 && eqb (w .offset) 28) (be32 (w .bytes) 0 ∷ []) []) ws
+
+abbrev said : Row → ℕ × ℕ × List ℕ
 said r =
-    let p : Reply = outcomeOn (cardOf 8 three (r .2)) (r .0) (r .1) .reply in
-    (p .number, p .len)
+    let o : Outcome = outcomeOn (cardOf 8 three (r .2)) (r .0) (r .1) in
+    (o .reply .number, o .reply .len, countsIn (o .writes))
 
 abbrev rows : List Row
 rows =
-    (get lens (0x63 ∷ []), 2, [], (0, 2))
-    ∷ (get lens (0x63 ∷ []), 1, [], (9, 2))
-    ∷ (get lens (0x62 ∷ []), 0, [], (0, 0))
-    ∷ (get lens (0x64 ∷ []), 0, [], (8, 0))
-    ∷ (get (0x78 ∷ []) (0x64 ∷ []), 0, [], (6, 0))
-    ∷ (get (0x20 ∷ []) (0x64 ∷ []), 0, [], (4, 0))
-    ∷ (get lens [], 0, [], (4, 0))
-    ∷ (next lens [], 1, [], (0, 1))
-    ∷ (next lens (0x62 ∷ []), 0, [], (9, 1))
-    ∷ (next lens (0x63 ∷ []), 0, [], (8, 0))
-    ∷ (next (0x78 ∷ []) [], 0, [], (6, 0))
-    ∷ (put (0x78 ∷ []) [] (replicate 65536 0), 0, [], (4, 0))
-    ∷ (put (0x78 ∷ []) (0x64 ∷ []) (replicate 65536 0), 0, [], (5, 0))
-    ∷ (put (0x78 ∷ []) (0x64 ∷ []) [], 0, [], (6, 0))
-    ∷ (put lens (0x64 ∷ []) (replicate 1000 0), 0, [], (0, 0))
-    ∷ (put lens (0x64 ∷ []) (replicate 1004 0), 0, [], (10, 0))
+    (get lens (0x63 ∷ []), 2, [], (0, 2, []))
+    ∷ (get lens (0x63 ∷ []), 1, [], (9, 2, []))
+    ∷ (get lens (0x62 ∷ []), 0, [], (0, 0, []))
+    ∷ (get lens (0x64 ∷ []), 0, [], (8, 0, []))
+    ∷ (get (0x78 ∷ []) (0x64 ∷ []), 0, [], (6, 0, []))
+    ∷ (get (0x20 ∷ []) (0x64 ∷ []), 0, [], (4, 0, []))
+    ∷ (get lens [], 0, [], (4, 0, []))
+    ∷ (next lens [], 1, [], (0, 1, []))
+    ∷ (next lens (0x62 ∷ []), 0, [], (9, 1, []))
+    ∷ (next lens (0x63 ∷ []), 0, [], (8, 0, []))
+    ∷ (next (0x78 ∷ []) [], 0, [], (6, 0, []))
+    ∷ (put (0x78 ∷ []) [] (replicate 65536 0), 0, [], (4, 0, []))
+    ∷ (put (0x78 ∷ []) (0x64 ∷ []) (replicate 65536 0), 0, [], (5, 0, []))
+    ∷ (put (0x78 ∷ []) (0x64 ∷ []) [], 0, [], (6, 0, []))
+    -- a value replaced
+    ∷ (put lens (0x63 ∷ []) [], 0, [], (0, 0, 1 ∷ []))
+    ∷ (put lens (0x63 ∷ []) [], 0, blockOf 9 (10 ∷ []) ∷ [], (0, 0, 3 ∷ []))
+    ∷ (put lens (0x64 ∷ []) (replicate 1000 0), 0, [], (0, 0, 1 ∷ []))
+    ∷ (put lens (0x64 ∷ []) (replicate 1004 0), 0, [], (10, 0, []))
     -- no page listed, and a block left
-    ∷ (put lens (0x64 ∷ []) (replicate 1004 0), 0, blockOf 9 [] ∷ [], (0, 0))
-    ∷ (remove lens (0x64 ∷ []), 0, [], (8, 0))
+    ∷ (put lens (0x64 ∷ []) (replicate 1004 0), 0, blockOf 9 [] ∷ [], (0, 0, 1 ∷ []))
+    ∷ (remove lens (0x64 ∷ []), 0, [], (8, 0, []))
     -- with no free page, before, over and behind the page break
-    ∷ (remove lens (0x61 ∷ []), 0, [], (0, 0))
-    ∷ (remove lens (0x62 ∷ []), 0, [], (0, 0))
-    ∷ (remove lens (0x63 ∷ []), 0, [], (0, 0))
-    ∷ (create lens, 0, [], (7, 0))
-    ∷ (create (0x78 ∷ []), 0, blockOf 9 (10 ∷ []) ∷ [], (10, 0))
-    ∷ (create (0x78 ∷ []), 0, blockOf 9 (10 ∷ 11 ∷ []) ∷ [], (0, 0))
+    ∷ (remove lens (0x61 ∷ []), 0, [], (0, 0, 2 ∷ []))
+    ∷ (remove lens (0x62 ∷ []), 0, [], (0, 0, 1 ∷ []))
+    ∷ (remove lens (0x63 ∷ []), 0, [], (0, 0, 1 ∷ []))
+    ∷ (create lens, 0, [], (7, 0, []))
+    ∷ (create (0x78 ∷ []), 0, blockOf 9 (10 ∷ []) ∷ [], (10, 0, []))
+    ∷ (create (0x78 ∷ []), 0, blockOf 9 (10 ∷ 11 ∷ []) ∷ [], (0, 0, 1 ∷ []))
     ∷ []
 
 answers : map said rows ≡ map (λ (r : Row). r .3) rows
-unfolding outcomeOn onTable ledgerOf refused freeCount lacks putPlan removePlan createPlan rewritePlan target spanAt parts wantedBy reached lensAt entryEnd nameRule keyRule word32
+unfolding outcomeOn onTable ledgerOf refused freeCount lacks writesOf changesOf putPlan removePlan createPlan rewritePlan target spanAt parts wantedBy share reached lensAt entryEnd draw rewrite tableAfter rewriting relink nameRule keyRule wholeSpan wholeTower wholeSkipList wholeTable counts be16 be32 word32 spanMark contMark
 answers = refl

@@ -8,11 +8,11 @@ use lib.ListN.{length, replicate}
 use lib.Dec.{T, leb, eqb, le→leb}
 use Rattle.blockfile.specs.Bytes.{pg, be16, be32, be64, word16, word32, Write, on, Every, gather}
 use Rattle.blockfile.specs.Marks.{superMark, skipMark, towerMark, spanMark, contMark, blockMark, freeMark}
-use Rattle.blockfile.specs.Layout.{Block, lensAt, entryEnd, reached}
+use Rattle.blockfile.specs.Layout.{Block, lensAt, entryEnd, reached, freeCount}
 use Rattle.blockfile.specs.Order.{Within, within, nameRule, keyRule}
 use Rattle.blockfile.specs.WellFormed.{Piece, Bears, firstBlock, freePieces, tablePieces, Accepted, Rejected}
 use Rattle.blockfile.specs.Calls.{lengthOk}
-use Rattle.blockfile.proofs.Tested.{namesRule, onceRule, superRule, skipRule, towerRule, spanRule, blockRule, freeRule, spanSizeRule, sizeRule, filledRule, reachRule, allowedRule, risingRule, heightRule, otherRule, t-every, t-eq}
+use Rattle.blockfile.proofs.Tested.{namesRule, keptRule, onceRule, superRule, skipRule, towerRule, spanRule, blockRule, freeRule, spanSizeRule, sizeRule, filledRule, reachRule, allowedRule, risingRule, heightRule, otherRule, t-every, t-eq}
 use Rattle.blockfile.proofs.Samples.{superPage, skipPage, towerPage, spanPage, blockPage, freePage, entryBytes, least, minusOne, nought, greatest, lens}
 use Rattle.blockfile.proofs.Reading.{Full}
 use Rattle.blockfile.proofs.Bools.{both-and}
@@ -60,6 +60,10 @@ withCont =
     ∷ on 13 12 (word32 1)
     ∷ []
 
+-- the second tower of "lens" taken out and its page given back
+abbrev withoutTower : List Write
+withoutTower = on 7 16 (word32 12) ∷ on 5 24 (word32 2) ∷ on 10 0 freeMark ∷ on 14 12 (word32 1 ++ word32 10) ∷ []
+
 -- ---- Superblock
 
 abbrev superblockRows : List Row
@@ -81,6 +85,14 @@ superblockRows =
     ∷ (on 1 22 (word16 129) ∷ [], spanSizeRule ∷ [])
     -- page size 1024
     ∷ (on 1 24 (word32 512) ∷ [], superRule ∷ [])
+    -- the count of free pages, 0 or F plus 1: F, one more than the true figure, that of a full card, the true one with a bit of the
+    -- upper half, the largest number; the true one of before, where F has changed
+    ∷ (on 1 28 (word32 4) ∷ [], keptRule ∷ [])
+    ∷ (on 1 28 (word32 6) ∷ [], keptRule ∷ [])
+    ∷ (on 1 28 (word32 1) ∷ [], keptRule ∷ [])
+    ∷ (on 1 28 (word32 65541) ∷ [], keptRule ∷ [])
+    ∷ (on 1 28 (word32 4294967295) ∷ [], keptRule ∷ [])
+    ∷ ((on 1 28 (word32 5) ∷ withoutTower), keptRule ∷ [])
     ∷ []
 
 -- ---- Page 2 is the metaindex's skip-list page
@@ -256,8 +268,8 @@ freeRows =
 
 -- ---- Changes that break no rule
 
-abbrev keptRows : List (List Write)
-keptRows =
+abbrev acceptedRows : List (List Write)
+acceptedRows =
     -- mounted 1
     (on 1 20 (word16 1) ∷ [])
     -- span size 2 and 128
@@ -280,23 +292,26 @@ keptRows =
     -- an empty first span before others
     ∷ (on 6 18 (word16 0) ∷ on 5 16 (word32 3) ∷ [])
     -- a span without a tower
-    ∷ (on 7 16 (word32 12) ∷ on 5 24 (word32 2) ∷ on 10 0 freeMark ∷ on 14 12 (word32 1 ++ word32 10) ∷ [])
+    ∷ withoutTower
+    -- the count of free pages kept, also where F has changed
+    ∷ (on 1 28 (word32 5) ∷ [])
+    ∷ (on 1 28 (word32 6) ∷ withoutTower)
     -- max height 252; the head's current above that of all others
     ∷ (on 18 8 (word16 252) ∷ [])
     ∷ (on 7 10 (word16 3) ∷ [])
     -- unused bytes hold anything: superblock, skip list, an entry at current, block numbers, a free page, after the last entry
-    ∷ (on 1 28 (0x09 ∷ []) ∷ on 5 30 (0x09 ∷ []) ∷ on 10 20 (0x09 ∷ []) ∷ on 14 16 (0x09 ∷ []) ∷ on 15 8 (0x09 ∷ []) ∷ on 17 20 (0x09 ∷ []) ∷ [])
+    ∷ (on 1 32 (0x09 ∷ []) ∷ on 5 30 (0x09 ∷ []) ∷ on 10 20 (0x09 ∷ []) ∷ on 14 16 (0x09 ∷ []) ∷ on 15 8 (0x09 ∷ []) ∷ on 17 20 (0x09 ∷ []) ∷ [])
     ∷ []
 
 -- ---- All of them
 
 rejected : Rejections pages (superblockRows ++ metaRows ++ spanRows ++ keyRows ++ offsetRows ++ countRows ++ towerRows ++ freeRows)
-unfolding superMark skipMark towerMark spanMark contMark blockMark freeMark word32 word16 be32 be16 be64 reached lensAt entryEnd nameRule keyRule
+unfolding superMark skipMark towerMark spanMark contMark blockMark freeMark word32 word16 be32 be16 be64 freeCount reached lensAt entryEnd nameRule keyRule
 rejected = rejections pages full (superblockRows ++ metaRows ++ spanRows ++ keyRows ++ offsetRows ++ countRows ++ towerRows ++ freeRows) refl tt
 
-accepted : Every (λ c. Accepted (imageOf pages c)) keptRows
-unfolding superMark skipMark towerMark spanMark contMark blockMark freeMark word32 word16 be32 be16 be64 reached lensAt entryEnd nameRule keyRule
-accepted = acceptances pages full keptRows refl tt
+accepted : Every (λ c. Accepted (imageOf pages c)) acceptedRows
+unfolding superMark skipMark towerMark spanMark contMark blockMark freeMark word32 word16 be32 be16 be64 freeCount reached lensAt entryEnd nameRule keyRule
+accepted = acceptances pages full acceptedRows refl tt
 
 -- ---- Two rules for images of any length
 

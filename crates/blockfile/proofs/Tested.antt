@@ -3,18 +3,19 @@ use Prim.Native.Nat.{ℕ, zero, suc, _+_, _*_, _<_, _≤_}
 use native.Mathlib.Omega.{arith}
 use native.Mathlib.Decide.{decLe}
 use mathlib.Core.Path.{_≡_, refl, ap, ap₂, sym, _∙_, subst}
+use mathlib.Core.Logic.{_⊎_, inl, inr}
 use mathlib.Core.List.{List, [], _∷_, _++_, map, head-eq-of-cons-eq, tail-eq-of-cons-eq, nil≢cons, cons≢nil}
-use mathlib.Core.Bool.{Bool, true, false, cond, _&&_}
+use mathlib.Core.Bool.{Bool, true, false, cond, _&&_, _||_}
 use lib.ListN.{length, getD, take, drop}
 use lib.Seq.{slice}
 use lib.Dec.{T, eqb, leb, eqb→eq, eqb-refl, leb→le, le→leb}
 use Rattle.blockfile.specs.Bytes.{pg, be16, be32, be64, word32, Every, gather, from, firstOf}
 use Rattle.blockfile.specs.Marks.{superMark, skipMark, towerMark, spanMark, contMark, blockMark, freeMark}
-use Rattle.blockfile.specs.Layout.{Entry, Table, Layout, columns, spansOf, towersOf, entriesOf, entriesFrom, lensAt, entryEnd, reached}
+use Rattle.blockfile.specs.Layout.{Entry, Table, Layout, columns, spansOf, towersOf, entriesOf, entriesFrom, lensAt, entryEnd, freeCount, reached}
 use Rattle.blockfile.specs.Order.{KeyRule, nameRule, keyRule, Within, within, same, Rising}
 use Rattle.blockfile.specs.Fields.{SkipList, LinkedSpan, LinkedTower, IsSuperblock, IsSkipList, IsTower, IsSpan, IsBlock, Numbers, EntriesAt, AreConts}
-use Rattle.blockfile.specs.WellFormed.{Piece, superblock, skipList, tower, span, block, freePage, pagesOf, Bears, pieces, TableOk, count, WellFormed}
-use Rattle.blockfile.proofs.Bools.{and-both, both-and, same-refl, same-eq}
+use Rattle.blockfile.specs.WellFormed.{Piece, superblock, skipList, tower, span, block, freePage, pagesOf, Bears, pieces, TableOk, count, Kept, WellFormed}
+use Rattle.blockfile.proofs.Bools.{and-both, both-and, or-either, or-left, or-right, same-refl, same-eq}
 use Rattle.blockfile.proofs.Count.{every-counted}
 
 -- ---- A test that holds exactly where A does
@@ -37,6 +38,17 @@ t-and p q =
       sound = λ h. (p .sound (and-both (p .test) (q .test) h .0), q .sound (and-both (p .test) (q .test) h .1));
       complete = λ h. both-and (p .test) (q .test) (p .complete (h .0)) (q .complete (h .1));
     }
+
+abbrev t-or : {A B : Type 0} → Tested A → Tested B → Tested (A ⊎ B)
+t-or {A} {B} p q = record { test = p .test || q .test; sound = λ h. found (or-either (p .test) (q .test) h); complete = told }
+  where
+    found : T (p .test) ⊎ T (q .test) → A ⊎ B
+    found (inl h) = inl (p .sound h)
+    found (inr h) = inr (q .sound h)
+
+    told : A ⊎ B → T (p .test || q .test)
+    told (inl a) = or-left (p .test) (q .test) (p .complete a)
+    told (inr b) = or-right (p .test) (q .test) (q .complete b)
 
 abbrev pub t-every : {A : Type 0} {R : A → Type 0} → ((x : A) → Tested (R x)) → (xs : List A) → Tested (Every R xs)
 t-every p [] = t-self true
@@ -130,7 +142,7 @@ t-block ns n b =
 -- ---- The rules, and verdicts that all hold exactly where A does
 
 pub data Rule : Type 0 where
-  lengthRule metaRule namesRule listedRule onceRule : Rule
+  lengthRule metaRule namesRule listedRule keptRule onceRule : Rule
   superRule skipRule towerRule spanRule blockRule freeRule : Rule
   spanSizeRule sizeRule filledRule reachRule allowedRule valueRule risingRule heightRule otherRule : Rule
 
@@ -276,7 +288,8 @@ WellOn g n L =
     × (TableOk nameRule (L .meta)
     × ((entriesOf (L .meta) ≡ map (λ n. record { key = n .key; value = word32 (n .value .root) }) (L .tables))
     × (Every (λ n. TableOk (keyRule (n .key)) (n .value)) (L .tables)
-    × (Every (λ b. length (b .listed) ≤ 252) (L .free) × (Every (Bears g) (pieces L) × Once (L .pages) (gather pagesOf (pieces L)))))))))
+    × (Every (λ b. length (b .listed) ≤ 252) (L .free)
+    × (Kept (freeCount (L .free)) (be32 (g 1) 28) × (Every (Bears g) (pieces L) × Once (L .pages) (gather pagesOf (pieces L))))))))))
 
 abbrev pub j-well : (g : ℕ → List ℕ) (n : ℕ) (L : Layout) → Judged (WellOn g n L)
 j-well g n L =
@@ -287,14 +300,15 @@ j-well g n L =
     (j-and (j-one namesRule (t-list (entriesOf (L .meta)) (map (λ n. record { key = n .key; value = word32 (n .value .root) }) (L .tables))))
     (j-and (j-every (λ n. j-table (keyRule (n .key)) (n .value)) (L .tables))
     (j-and (j-one listedRule (t-every (λ b. t-le (length (b .listed)) 252) (L .free)))
-    (j-and (j-every (j-bears g) (pieces L)) (j-one onceRule (t-once (L .pages) (gather pagesOf (pieces L)))))))))))
+    (j-and (j-one keptRule (t-or (t-eq (be32 (g 1) 28) 0) (t-eq (be32 (g 1) 28) (freeCount (L .free) + 1))))
+    (j-and (j-every (j-bears g) (pieces L)) (j-one onceRule (t-once (L .pages) (gather pagesOf (pieces L))))))))))))
 
 abbrev pub j-image : (img : List ℕ) (L : Layout) → Judged (WellFormed img L)
 j-image img L =
     j-as (j-well (pg img) (length img) L)
-    (λ h. let ((p, l), (z, (m, (o, (e, (t, (b, (r, u)))))))) = h in
-    record { pages = p; size = l; spanSize = z; metaPage = m; metaOk = o; metaEntries = e; tablesOk = t; blocksOk = b; bears = r; once = u })
-    (λ w. ((w .pages, w .size), (w .spanSize, (w .metaPage, (w .metaOk, (w .metaEntries, (w .tablesOk, (w .blocksOk, (w .bears, w .once)))))))))
+    (λ h. let ((p, l), (z, (m, (o, (e, (t, (b, (q, (r, u))))))))) = h in
+    record { pages = p; size = l; spanSize = z; metaPage = m; metaOk = o; metaEntries = e; tablesOk = t; blocksOk = b; kept = q; bears = r; once = u })
+    (λ w. ((w .pages, w .size), (w .spanSize, (w .metaPage, (w .metaOk, (w .metaEntries, (w .tablesOk, (w .blocksOk, (w .kept, (w .bears, w .once))))))))))
 
 module _ {A : Type 0} where
   abbrev pub all : (A → Bool) → List A → Bool

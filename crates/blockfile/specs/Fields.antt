@@ -8,7 +8,8 @@ use Rattle.blockfile.specs.Bytes.{be16, be32, be64, gather, firstOf}
 use Rattle.blockfile.specs.Marks.{superMark, skipMark, towerMark, spanMark, contMark, blockMark, freeMark}
 use Rattle.blockfile.specs.Layout.{Entry, Span, Tower, entriesFrom, lensAt, entryEnd}
 
--- Superblock: p is P, f the first free-list page or 0, z the span size
+-- Superblock: p is P, f the first free-list page or 0, z the span size. The count of free pages in bytes 28 to 31 is not one of its
+-- fields: it is a rule on the whole image, and does not hold between the writes of a call
 pub record IsSuperblock (p f z : ℕ) (b : List ℕ) : Type 0 where
   pub mark : take 6 b ≡ superMark
   pub major : getD b 6 0 ≡ 1

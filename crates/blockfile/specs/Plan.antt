@@ -1,10 +1,10 @@
 -- What put, remove and create do, said before the pages are known.
 use Prim.Native.Nat.{ℕ, _+_}
-use mathlib.Core.List.{List, _++_}
+use mathlib.Core.List.{List, [], _∷_, _++_}
 use mathlib.Core.Bool.{Bool}
 use lib.ListN.{length}
 use lib.Dec.{ltb}
-use Rattle.blockfile.specs.Bytes.{Write}
+use Rattle.blockfile.specs.Bytes.{Write, on, word32}
 use Rattle.blockfile.specs.Layout.{Keyed, Table, Layout, freeCount}
 use Rattle.blockfile.specs.Free.{Drawn, draw}
 
@@ -36,8 +36,16 @@ layoutAfter L p =
     let m : Made = p .make (d .pages) in
     record { pages = L .pages; spanSize = L .spanSize; meta = m .meta; tables = m .tables; free = d .free }
 
--- all that is written: what drawing writes, then the rest
-unfoldable pub writesOf : Layout → Plan → List Write
-writesOf L p =
+-- what drawing writes, then the rest
+unfoldable pub changesOf : Layout → Plan → List Write
+changesOf L p =
     let d : Drawn = drawnBy L p in
     d .writes ++ p .make (d .pages) .writes
+
+-- the superblock keeps the count of f free pages
+abbrev pub keptOn : (f : ℕ) → Write
+keptOn f = on 1 28 (word32 (f + 1))
+
+-- all that is written: these changes, and last the count of the pages that are free after them
+unfoldable pub writesOf : Layout → Plan → List Write
+writesOf L p = changesOf L p ++ (keptOn (freeCount (drawnBy L p .free)) ∷ [])

@@ -2,11 +2,12 @@
 use Prim.Native.Nat.{ℕ, _+_, _*_, _≤_}
 use mathlib.Core.Path.{_≡_}
 use mathlib.Core.List.{List, [], _∷_, _++_, map}
+use mathlib.Core.Logic.{_⊎_}
 use mathlib.Core.Bool.{cond}
 use lib.ListN.{length}
 use lib.Dec.{T, ltb, eqb}
-use Rattle.blockfile.specs.Bytes.{pg, word32, Every, gather, from, firstOf}
-use Rattle.blockfile.specs.Layout.{Span, Tower, Column, Table, Block, Layout, columns, spansOf, towersOf, towerIn, entriesOf, reached}
+use Rattle.blockfile.specs.Bytes.{pg, be32, word32, Every, gather, from, firstOf}
+use Rattle.blockfile.specs.Layout.{Span, Tower, Column, Table, Block, Layout, columns, spansOf, towersOf, towerIn, entriesOf, freeCount, reached}
 use Rattle.blockfile.specs.Order.{KeyRule, nameRule, keyRule, Within, within, Rising}
 use Rattle.blockfile.specs.Fields.{SkipList, LinkedSpan, LinkedTower, IsSuperblock, IsSkipList, IsTower, IsSpan, IsBlock, IsFree}
 
@@ -118,6 +119,10 @@ abbrev pub count : (n : ℕ) → List ℕ → ℕ
 count n [] = 0
 count n (m ∷ ms) = cond (eqb n m) 1 0 + count n ms
 
+-- the superblock's count n of the free pages f: 0 for not kept, else f plus 1
+abbrev pub Kept : (f n : ℕ) → Type 0
+Kept f n = (n ≡ 0) ⊎ (n ≡ f + 1)
+
 pub record WellFormed (img : List ℕ) (L : Layout) : Type 0 where
   pub pages : Within 4 4096 (L .pages)
   pub size : length img ≡ 1024 * L .pages
@@ -129,6 +134,8 @@ pub record WellFormed (img : List ℕ) (L : Layout) : Type 0 where
   pub tablesOk : Every (λ n. TableOk (keyRule (n .key)) (n .value)) (L .tables)
   -- at most 252 pages listed in a block
   pub blocksOk : Every (λ b. length (b .listed) ≤ 252) (L .free)
+  -- superblock 28 to 31: the count of free pages, kept or not
+  pub kept : Kept (freeCount (L .free)) (be32 (pg img 1) 28)
   -- every page bears the mark, and keeps the field rules, of the kind it is owned as
   pub bears : Every (Bears (pg img)) (pieces L)
   -- each of the P pages is owned exactly once; no other number, 0 among them, is owned

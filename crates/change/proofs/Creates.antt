@@ -1,23 +1,24 @@
--- Create on an accepted image: what it asks of the creation of a table, and one law for each way out.
+-- Create on an accepted image: what it asks of the creation of a table, and what came of it.
 use Prim.Native.Nat.{ℕ}
 use mathlib.Core.Path.{_≡_, refl}
 use mathlib.Core.List.{List, []}
+use mathlib.Core.Option.{none}
 use mathlib.Core.Bool.{true, false}
 use Rattle.blockfile.specs.declared.Refusal.the-variants.{NameOrKey, TableExists, NoRoom}
-use Rattle.blockfile.specs.declared.Wrote.the-variants.{Done, Refused as NotWrote}
+use Rattle.blockfile.specs.declared.Wrote.the-variants.{Refused as NotWrote}
 use Rattle.blockfile.specs.Order.{nameRule}
-use Rattle.blockfile.specs.Plan.{writesOf}
 use Rattle.blockfile.specs.Create.{createPlan}
-use Rattle.blockfile.specs.Refusals.{create, refused}
+use Rattle.blockfile.specs.Refusals.{create, ledgerOf, refused}
 use Rattle.blockfile.specs.Answers.{outcomeOn}
 use Rattle.blockfile.proofs.Bools.{holds}
+use Rattle.laws.proofs.Preserves.{few-after}
 use Rattle.search.specs.declared.table.Named.{Named}
 use Rattle.search.specs.declared.table.Named.the-variants.{Root, Unknown}
 use Rattle.search.specs.Tables.{NamedAs}
 use Rattle.edit.specs.declared.apply.Applied.{Applied}
-use Rattle.edit.specs.declared.apply.Applied.the-variants.{Nothing, Left}
 use Rattle.create.specs.Creates.{NoTable, CreateReady, Created}
 use Rattle.change.specs.Change.{Lending, Changed}
+use Rattle.change.proofs.Settles.{Tried}
 use Rattle.refusals.proofs.Tables.{no-table, has-table}
 
 module _ {img s : List ℕ} {free : ℕ} (lent : Lending img s free) (name : List ℕ) where
@@ -39,23 +40,22 @@ module _ {img s : List ℕ} {free : ℕ} (lent : Lending img s free) (name : Lis
       pub create-ready : CreateReady img s free name
       create-ready = record { layout = lent .layout; is = none-named; allowed = holds _ good; lent = lent .long }
 
-      module _ (b : Applied) (new : List ℕ) (d : Created img free name b new) where
-        pub create-done : (m : ℕ) → b ≡ Left m → Changed (create name) img Done new
-        unfolding outcomeOn refused
-        create-done m h =
-            let L = lent .layout in
-            let f = d .is L none-named .done m h in
-            record {
-              layout = L;
-              well = lent .well;
-              writes = writesOf L (createPlan L name);
-              outcome = rw (good, no-table L name (none-named .absent), f .0);
-              image = f .1 .image;
-            }
+      passed : refused (ledgerOf (lent .layout)) (create name) 0 ≡ none
+      unfolding refused
+      passed = rw (good, no-table (lent .layout) name (none-named .absent))
 
-        pub create-full : b ≡ Nothing → Changed (create name) img (NotWrote NoRoom) new
-        unfolding outcomeOn refused
-        create-full h =
-            let L = lent .layout in
-            let f = d .is L none-named .refused h in
-            record { layout = L; well = lent .well; writes = []; outcome = rw (good, no-table L name (none-named .absent), f .0); image = f .1 }
+      pub create-tried : {a : Applied} {mid : List ℕ} → Created img free name a mid → Tried (create name) img (lent .layout) NoRoom a mid
+      unfolding outcomeOn
+      create-tried d =
+          let o = d .is (lent .layout) none-named in
+          record {
+            undone = λ h. let f = o .refused h in (rw (passed, f .0), f .1);
+            made = λ m h.
+                let f = o .done m h in
+                record {
+                  plan = createPlan (lent .layout) name;
+                  outcome = rw (passed, f .0);
+                  carried = f .1;
+                  few = few-after img (lent .layout) (create name) 0 (lent .well) passed (createPlan (lent .layout) name) refl (f .0);
+                };
+          }

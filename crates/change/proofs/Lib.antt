@@ -1,3 +1,4 @@
+pub mod Settles
 pub mod Named
 pub mod Puts
 pub mod Removes

@@ -1,29 +1,32 @@
--- Put on an accepted image: what it asks of the edit of a table, and one law for each way out.
+-- Put on an accepted image: what it asks of the edit of a table, and what came of it.
 use Prim.Native.Nat.{ℕ}
 use mathlib.Core.Path.{_≡_, refl, sym, _∙_}
 use mathlib.Core.List.{List, []}
+use mathlib.Core.Option.{none, some}
 use mathlib.Core.Bool.{Bool, true, false, not}
 use borrow.Author.Tests.{ltb-false, not-true}
 use lib.ListN.{length}
 use lib.Dec.{ltb}
 use Rattle.blockfile.specs.declared.Refusal.{Refusal}
 use Rattle.blockfile.specs.declared.Refusal.the-variants.{NoRoom}
-use Rattle.blockfile.specs.declared.Wrote.the-variants.{Done, Refused as NotWrote}
-use Rattle.blockfile.specs.Plan.{writesOf}
+use Rattle.blockfile.specs.declared.Wrote.the-variants.{Refused as NotWrote}
+use Rattle.blockfile.specs.Plan.{Plan}
 use Rattle.blockfile.specs.Put.{putPlan}
-use Rattle.blockfile.specs.Refusals.{put}
-use Rattle.blockfile.specs.Answers.{onTable, outcomeOn}
+use Rattle.blockfile.specs.Refusals.{put, ledgerOf, refused}
+use Rattle.blockfile.specs.Answers.{planOf, outcomeOn}
 use Rattle.blockfile.proofs.Bools.{holds}
+use Rattle.laws.proofs.Ledgers.{on-table}
+use Rattle.laws.proofs.Preserves.{few-after}
 use Rattle.order.specs.declared.sort.Sort.{Sort}
 use Rattle.search.specs.declared.table.TableRef.{TableRef}
 use Rattle.edit.specs.declared.apply.Applied.{Applied}
-use Rattle.edit.specs.declared.apply.Applied.the-variants.{Nothing, Left}
 use Rattle.edit.specs.Puts.{PutReady, PutDone}
 use Rattle.refusals.specs.declared.table.Entered.{Entered}
 use Rattle.refusals.specs.declared.table.Entered.the-variants.{Refused, Found}
 use Rattle.refusals.specs.Table.{OnTable, NamedTable}
 use Rattle.refusals.proofs.Tables.{rows-left}
 use Rattle.change.specs.Change.{Lending, Changed}
+use Rattle.change.proofs.Settles.{Tried}
 use Rattle.change.proofs.Named.{KeyJudged, legal-is, named-refused, found, table-at, allowed}
 
 not-not : (b : Bool) → b ≡ not (not b)
@@ -60,31 +63,28 @@ module _ {name key value : List ℕ} {sort : Sort} {legal short : Bool} (j : Jud
             lent = lent .long;
           }
 
-      module _ (b : Applied) (new : List ℕ) (d : PutDone img table free key value b new) where
-        pub put-done : (m : ℕ) → b ≡ Left m → Changed (put name key value) img Done new
-        unfolding outcomeOn onTable
-        put-done m h =
-            let L = lent .layout in
-            let t = found lent n page e .1 .table in
-            let f = d .done m h L name t (table-at lent n page e (j .of-key .sorts)) (lent .pages) in
-            record {
-              layout = L;
-              well = lent .well;
-              writes = writesOf L (putPlan L name t key value);
-              outcome = rw (rows-left put-on L 0 (found lent n page e .0), found lent n page e .1 .found, f .0);
-              image = f .1 .image;
-            }
+      -- no row refuses it, and there is a table
+      passed : refused (ledgerOf (lent .layout)) (put name key value) 0 ≡ none
+      passed = rows-left put-on (lent .layout) 0 (found lent n page e .0)
 
-        pub put-full : b ≡ Nothing → Changed (put name key value) img (NotWrote NoRoom) new
-        unfolding outcomeOn onTable
-        put-full h =
-            let L = lent .layout in
-            let t = found lent n page e .1 .table in
-            let f = d .refused h L name t (table-at lent n page e (j .of-key .sorts)) (lent .pages) in
-            record {
-              layout = L;
-              well = lent .well;
-              writes = [];
-              outcome = rw (rows-left put-on L 0 (found lent n page e .0), found lent n page e .1 .found, f .0);
-              image = f .1;
-            }
+      abbrev plan : Plan
+      plan = putPlan (lent .layout) name (found lent n page e .1 .table) key value
+
+      planned : planOf (lent .layout) (put name key value) ≡ some plan
+      planned = on-table (lent .layout) name _ (λ u. putPlan (lent .layout) name u key value) (found lent n page e .1 .found)
+
+      pub put-tried : {a : Applied} {mid : List ℕ} → PutDone img table free key value a mid → Tried (put name key value) img (lent .layout) NoRoom a mid
+      unfolding outcomeOn
+      put-tried d =
+          let at = table-at lent n page e (j .of-key .sorts) in
+          record {
+            undone = λ h. let f = d .refused h (lent .layout) name _ at (lent .pages) in (rw (passed, planned, f .0), f .1);
+            made = λ m h.
+                let f = d .done m h (lent .layout) name _ at (lent .pages) in
+                record {
+                  plan = plan;
+                  outcome = rw (passed, planned, f .0);
+                  carried = f .1;
+                  few = few-after img (lent .layout) (put name key value) 0 (lent .well) passed plan planned (f .0);
+                };
+          }

@@ -1,28 +1,32 @@
--- Remove on an accepted image: what it asks of the edit of a table, and one law for each way out.
+-- Remove on an accepted image: what it asks of the edit of a table, and what came of it.
 use Prim.Native.Nat.{ℕ}
-use mathlib.Core.Path.{_≡_, ap, sym, _∙_}
+use mathlib.Core.Path.{_≡_, refl, ap, sym, _∙_, subst}
 use mathlib.Core.List.{List, [], _∷_}
-use mathlib.Core.Bool.{Bool, true, not}
+use mathlib.Core.Option.{Option, none, some}
+use mathlib.Core.Bool.{Bool, true, false, not}
 use Rattle.blockfile.specs.declared.Refusal.{Refusal}
 use Rattle.blockfile.specs.declared.Refusal.the-variants.{NoKey}
-use Rattle.blockfile.specs.declared.Wrote.the-variants.{Done, Refused as NotWrote}
+use Rattle.blockfile.specs.declared.Wrote.the-variants.{Refused as NotWrote}
 use Rattle.blockfile.specs.Layout.{Table, Layout, entriesOf}
 use Rattle.blockfile.specs.Order.{find, there}
-use Rattle.blockfile.specs.Plan.{writesOf}
+use Rattle.blockfile.specs.Plan.{Plan, lacks}
 use Rattle.blockfile.specs.Remove.{removePlan}
-use Rattle.blockfile.specs.Refusals.{remove, ledgerOf, sought}
-use Rattle.blockfile.specs.Answers.{onTable, outcomeOn}
+use Rattle.blockfile.specs.Refusals.{remove, ledgerOf, sought, refused}
+use Rattle.blockfile.specs.Answers.{planOf, lacking, outcomeOn}
 use Rattle.blockfile.proofs.Bools.{holds}
+use Rattle.laws.proofs.Ledgers.{layout-ok, on-table}
+use Rattle.laws.proofs.Room.{remove-never-lacks}
+use Rattle.laws.proofs.Preserves.{few-after}
 use Rattle.order.specs.declared.sort.Sort.{Sort}
 use Rattle.search.specs.declared.table.TableRef.{TableRef}
 use Rattle.edit.specs.declared.apply.Applied.{Applied}
-use Rattle.edit.specs.declared.apply.Applied.the-variants.{Nothing, Left}
 use Rattle.remove.specs.Removes.{RemoveReady, RemoveDone}
 use Rattle.refusals.specs.declared.table.Entered.{Entered}
 use Rattle.refusals.specs.declared.table.Entered.the-variants.{Refused, Found}
 use Rattle.refusals.specs.Table.{OnTable, NamedTable}
 use Rattle.refusals.proofs.Tables.{its-map, rows-left}
 use Rattle.change.specs.Change.{Lending, Changed}
+use Rattle.change.proofs.Settles.{Tried}
 use Rattle.change.proofs.Named.{KeyJudged, legal-is, named-refused, found, table-at, allowed}
 
 module _ {name key : List ℕ} {sort : Sort} {legal : Bool} (j : KeyJudged name key sort legal) where
@@ -59,21 +63,25 @@ module _ {name key : List ℕ} {sort : Sort} {legal : Bool} (j : KeyJudged name 
       looked : sought (ledgerOf L) (remove name key) ≡ find key (entriesOf t)
       looked = ap (find key) (its-map L name t (found lent n page e .1 .found))
 
-      module _ (b : Applied) (new : List ℕ) (d : RemoveDone img table free key b new) where
-        pub remove-done : (m : ℕ) → b ≡ Left m → Changed (remove name key) img Done new
-        unfolding outcomeOn onTable
-        remove-done m q =
-            let f = d .done m q L name t (table-at lent n page e (j .sorts)) (lent .pages) in
-            record {
-              layout = L;
-              well = lent .well;
-              writes = writesOf L (removePlan L name t key);
-              outcome = rw (rows-left remove-on L 0 (found lent n page e .0), looked, f .0 .1, found lent n page e .1 .found);
-              image = f .1 .image;
-            }
+      planned : planOf L (remove name key) ≡ some (removePlan L name t key)
+      planned = on-table L name t (λ u. removePlan L name u key) (found lent n page e .1 .found)
 
-        pub remove-missing : b ≡ Nothing → Changed (remove name key) img (NotWrote NoKey) new
-        unfolding outcomeOn
-        remove-missing q =
-            let f = d .missing q L name t (table-at lent n page e (j .sorts)) in
-            record { layout = L; well = lent .well; writes = []; outcome = rw (rows-left remove-on L 0 (found lent n page e .0), looked, f .0); image = f .1 }
+      enough : lacks L (removePlan L name t key) ≡ false
+      enough = subst (λ (o : Option Plan). lacking L o ≡ false) planned (remove-never-lacks L (layout-ok img L (lent .well)) name key)
+
+      pub remove-tried : {a : Applied} {mid : List ℕ} → RemoveDone img table free key a mid → Tried (remove name key) img L NoKey a mid
+      unfolding outcomeOn
+      remove-tried d =
+          let at = table-at lent n page e (j .sorts) in
+          record {
+            undone = λ h. let f = d .missing h L name t at in (rw (rows-left remove-on L 0 (found lent n page e .0), looked, f .0), f .1);
+            made = λ m h.
+                let f = d .done m h L name t at (lent .pages) in
+                let passed : refused (ledgerOf L) (remove name key) 0 ≡ none = rows-left remove-on L 0 (found lent n page e .0) ∙ rw (looked, f .0 .1) refl in
+                record {
+                  plan = removePlan L name t key;
+                  outcome = rw (passed, planned);
+                  carried = f .1;
+                  few = few-after img L (remove name key) 0 (lent .well) passed (removePlan L name t key) planned enough;
+                };
+          }

@@ -1,10 +1,10 @@
 // Create on an accepted image: the refusals 4, 7 and 10, and the change.
 ghost use Rattle.blockfile.specs.Refusals.{create};
 ghost use Rattle.change.specs.Change.{Lending, Changed};
+use crate::settle::settle;
 use blockfile::Refusal;
 use blockfile::Wrote;
 use create::create;
-use edit::apply::Applied;
 use refusals::legal::is_name;
 use search::table::Named;
 use search::table::find_table;
@@ -21,8 +21,6 @@ pub fn create_table(image: &mut [u8], scratch: &mut [u8], free: usize, name: &[u
     let Named::Unknown = find_table(image, name) else {
         return Wrote::Refused(Refusal::TableExists);
     };
-    let Applied::Left(_) = create(image, scratch, free, name) else {
-        return Wrote::Refused(Refusal::NoRoom);
-    };
-    Wrote::Done
+    let applied = create(image, scratch, free, name);
+    settle(image, applied, Refusal::NoRoom)
 }

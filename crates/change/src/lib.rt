@@ -10,6 +10,7 @@ use removing::remove_entry;
 pub mod creating;
 pub mod putting;
 pub mod removing;
+pub mod settle;
 
 // The calls that write.
 pub enum Request {

@@ -1,9 +1,9 @@
 // Put on an accepted image: the refusals 4 to 6 and 10, and the change.
 ghost use Rattle.blockfile.specs.Refusals.{put};
 ghost use Rattle.change.specs.Change.{Lending, Changed};
+use crate::settle::settle;
 use blockfile::Refusal;
 use blockfile::Wrote;
-use edit::apply::Applied;
 use edit::put::put;
 use order::sort::sort_of;
 use refusals::legal::is_key;
@@ -30,10 +30,8 @@ pub fn put_entry(
         Entered::Refused(why) => Wrote::Refused(why),
         Entered::Found(page) => {
             let table = TableRef { root: page, sort };
-            let Applied::Left(_) = put(image, scratch, table, free, key, value) else {
-                return Wrote::Refused(Refusal::NoRoom);
-            };
-            Wrote::Done
+            let applied = put(image, scratch, table, free, key, value);
+            settle(image, applied, Refusal::NoRoom)
         }
     }
 }

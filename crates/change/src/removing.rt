@@ -1,9 +1,9 @@
 // Remove on an accepted image: the refusals 4, 6 and 8, and the change.
 ghost use Rattle.blockfile.specs.Refusals.{remove};
 ghost use Rattle.change.specs.Change.{Lending, Changed};
+use crate::settle::settle;
 use blockfile::Refusal;
 use blockfile::Wrote;
-use edit::apply::Applied;
 use order::sort::sort_of;
 use refusals::legal::is_key;
 use refusals::table::Entered;
@@ -28,10 +28,8 @@ pub fn remove_entry(
         Entered::Refused(why) => Wrote::Refused(why),
         Entered::Found(page) => {
             let table = TableRef { root: page, sort };
-            let Applied::Left(_) = remove(image, scratch, table, free, key) else {
-                return Wrote::Refused(Refusal::NoKey);
-            };
-            Wrote::Done
+            let applied = remove(image, scratch, table, free, key);
+            settle(image, applied, Refusal::NoKey)
         }
     }
 }

@@ -11,7 +11,7 @@ use Rattle.blockfile.specs.Bytes.{Write, word32, apply}
 use Rattle.blockfile.specs.Layout.{Entry, Table, Layout, entriesOf, freeCount}
 use Rattle.blockfile.specs.Order.{nameRule, find, insert}
 use Rattle.blockfile.specs.Free.{Drawn, draw}
-use Rattle.blockfile.specs.Plan.{lacks, writesOf}
+use Rattle.blockfile.specs.Plan.{lacks, changesOf}
 use Rattle.blockfile.specs.Put.{target, spanAt, parts, wantedBy, Edited, rewrite}
 use Rattle.blockfile.specs.Create.{newTable, wholeTable, metaWith, createPlan}
 use Rattle.laws.specs.FreeList.{FreeList}
@@ -185,7 +185,7 @@ module _ {img : List ℕ} {page free : ℕ} {c : Change} {name path : List ℕ} 
 
             pub all-done : 1024 * x .base ≡ length img → (img1 : List ℕ) → CarriedOn img x c name v path img1 → (out : List ℕ)
                 → out ≡ apply (wholeTable (newTable (t .most) (t .root) (t .span) (t .head))) img1 → Outcome img L name (Left (n + free - (wantedOf x + 3))) out
-            unfolding lacks writesOf createPlan
+            unfolding lacks changesOf createPlan
             all-done k img1 d out g =
                 record {
                   done = λ b a. (

@@ -10,7 +10,7 @@ use Rattle.blockfile.specs.Bytes.{Write, apply}
 use Rattle.blockfile.specs.Layout.{Entry, Table, Layout, columns, freeCount}
 use Rattle.blockfile.specs.Order.{keyRule, insert}
 use Rattle.blockfile.specs.WellFormed.{TableOk}
-use Rattle.blockfile.specs.Plan.{Plan as TextPlan, drawnBy, lacks, writesOf}
+use Rattle.blockfile.specs.Plan.{Plan as TextPlan, drawnBy, lacks, changesOf}
 use Rattle.blockfile.specs.Put.{target, spanAt, parts, wantedBy, rewritePlan, putPlan}
 use Rattle.laws.proofs.Draws.{left-drawn}
 use Rattle.laws.proofs.Orders.{keys-ordered}
@@ -46,8 +46,8 @@ pub not-left : {n : ℕ} → Nothing ≡ Left n → ⊥
 not-left e = let z : _≡_ {A = ℕ} 0 1 = cc in omega arith
 
 -- a span rewritten with the entries es is the text's plan for them
-pub plan-writes : (L : Layout) (name : List ℕ) (t : Table) (i : ℕ) {es fs : List Entry} → fs ≡ es → writesFor t i (L .free) fs ≡ writesOf L (rewritePlan L name t i es)
-unfolding writesOf rewritePlan
+pub plan-writes : (L : Layout) (name : List ℕ) (t : Table) (i : ℕ) {es fs : List Entry} → fs ≡ es → writesFor t i (L .free) fs ≡ changesOf L (rewritePlan L name t i es)
+unfolding changesOf rewritePlan
 plan-writes L name t i e = ap (writesFor t i (L .free)) e
 
 -- the pages old and free, but for those wanted, are free after it
@@ -135,7 +135,7 @@ module _ {img : List ℕ} {d : TableRef} {free : ℕ} {k : List ℕ} (v : List �
       unfolding putPlan
       left-is = omega (arith, counted o q n m, plan-total (plan-is o q), plan-left L name t (place a k) (inserted a k page f s g v) has-room)
 
-      image-is : {path : Path} → PathIn img d k false path → {out : List ℕ} → CarriedOn img x (putAt s) k v (path .pages) out → out ≡ apply (writesOf L (putPlan L name t k v)) img
+      image-is : {path : Path} → PathIn img d k false path → {out : List ℕ} → CarriedOn img x (putAt s) k v (path .pages) out → out ≡ apply (changesOf L (putPlan L name t k v)) img
       unfolding putPlan
       image-is p w = written o q has-room (w .image (keyRule name) t (L .free) (place a k) (carries o q has-room) (path-target (reading a) k p)) ∙ ap (λ (ws : List Write). apply ws img) (plan-writes L name t (place a k) (inserted a k page f s g v))
 

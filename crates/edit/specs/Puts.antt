@@ -10,16 +10,16 @@ use Rattle.blockfile.specs.Bytes.{apply}
 use Rattle.blockfile.specs.Layout.{Table, Layout, freeCount}
 use Rattle.blockfile.specs.Order.{keyRule, find}
 use Rattle.blockfile.specs.WellFormed.{WellFormed}
-use Rattle.blockfile.specs.Plan.{Plan, drawnBy, lacks, writesOf}
+use Rattle.blockfile.specs.Plan.{Plan, drawnBy, lacks, changesOf}
 use Rattle.blockfile.specs.Put.{putPlan}
 use Rattle.order.specs.Sorts.{sortOf}
 use Rattle.search.specs.declared.table.TableRef.{TableRef}
 use Rattle.edit.specs.declared.apply.Applied.{Applied}
 use Rattle.edit.specs.declared.apply.Applied.the-variants.{Nothing, Left}
 
--- the plan is carried out, and n pages are free after it
+-- the plan is carried out, all but the count of free pages, and n pages are free after it
 pub record CarriedOut (img : List ℕ) (L : Layout) (p : Plan) (n : ℕ) (out : List ℕ) : Type 0 where
-  pub image : out ≡ apply (writesOf L p) img
+  pub image : out ≡ apply (changesOf L p) img
   pub left : n ≡ freeCount (drawnBy L p .free)
 
 -- the image has this layout, and the table of this name is the one that is meant

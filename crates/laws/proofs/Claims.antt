@@ -17,7 +17,7 @@ use Rattle.blockfile.specs.Answers.{refuse, planOf, lacking, noRoom, planned, o
 use Rattle.blockfile.proofs.Count.{count-append}
 use Rattle.laws.specs.FreeList.{freePages}
 use Rattle.laws.specs.Owned.{tablePages, changedBy, placeIn}
-use Rattle.laws.specs.Claims.{Decided, OneLayout, Determined, mayChange, PageStays, MetaStays, TableStays, TablesStay, Does, BytesStay, WellAfter, PutHasRoom, ReachNoFurther, RemoveWants, RemoveHasRoom, SameSpan}
+use Rattle.laws.specs.Claims.{Decided, OneLayout, Determined, mayChange, PageStays, MetaStays, TableStays, TablesStay, Does, BytesStay, WellAfter, CountKept, PutHasRoom, ReachNoFurther, RemoveWants, RemoveHasRoom, SameSpan}
 use Rattle.laws.proofs.Orders.{names-ordered, keys-ordered}
 use Rattle.laws.proofs.Paths.{same-place}
 use Rattle.laws.proofs.TableCreate.{table-found}
@@ -26,7 +26,7 @@ use Rattle.laws.proofs.Determined.{determined as determine}
 use Rattle.laws.proofs.Positions.{reach-no-further as no-further}
 use Rattle.laws.proofs.Ledgers.{layout-ok}
 use Rattle.laws.proofs.Room.{put-never-lacks, remove-wants, remove-never-lacks, room-enough}
-use Rattle.laws.proofs.Preserves.{well-after as well}
+use Rattle.laws.proofs.Preserves.{well-after as well, count-after}
 use Rattle.laws.proofs.Owners.{under-named, names-apart}
 use Rattle.laws.proofs.Stays.{owned-once, Changes, changes, stays, other-page}
 
@@ -106,6 +106,10 @@ bytes-stay img L op room p w d =
 pub well-after : WellAfter
 unfolding WellAfter
 well-after img L op room p w d = well img L op room w (d .allowed) p (d .planned) (pages-enough img L op room p w d)
+
+pub count-kept : CountKept
+unfolding CountKept
+count-kept img L op room p w d = count-after img L op room w (d .allowed) p (d .planned) (pages-enough img L op room p w d)
 
 -- ---- Room
 

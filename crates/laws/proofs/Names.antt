@@ -52,6 +52,7 @@ pub record Part (ns : List ℕ) (lo hi : ℕ) (w : Write) : Type 0 where
 -- 8 to 15, of its towers those from 16 on; of free-list blocks those from 12 on; on pages in hand any
 pub data Named (t : Table) (blocks hand : List ℕ) (w : Write) : Type 0 where
   first-free : Part (1 ∷ []) 16 20 w → Named t blocks hand w
+  free-kept : Part (1 ∷ []) 28 32 w → Named t blocks hand w
   counts : Part (t .root ∷ []) 16 28 w → Named t blocks hand w
   height : Part (t .head .page ∷ []) 10 12 w → Named t blocks hand w
   links : Part (map (λ s. s .page) (spansOf (columns t))) 8 16 w → Named t blocks hand w

@@ -1,14 +1,14 @@
 -- What is held, as pieces; a well-formed image opened into what is held, and closed again.
 use Prim.Native.Nat.{ℕ, _+_, _≤_}
 use native.Mathlib.Omega.{arith}
-use mathlib.Core.Path.{_≡_, refl, ap, sym, _∙_, subst, subst₃}
+use mathlib.Core.Path.{_≡_, refl, ap, sym, _∙_, subst}
 use mathlib.Core.List.{List, [], _∷_, _++_, map, append-assoc, map-append}
 use lib.ListN.{length}
-use Rattle.blockfile.specs.Bytes.{pg, word32, Every, gather}
-use Rattle.blockfile.specs.Layout.{Keyed, Table, Block, Layout, entriesOf}
+use Rattle.blockfile.specs.Bytes.{pg, be32, word32, Every, gather}
+use Rattle.blockfile.specs.Layout.{Keyed, Table, Block, Layout, entriesOf, freeCount}
 use Rattle.blockfile.specs.Order.{nameRule, keyRule, Within}
 use Rattle.blockfile.specs.Fields.{SkipList, LinkedSpan, LinkedTower}
-use Rattle.blockfile.specs.WellFormed.{Piece, superblock, skipList, tower, span, Bears, freePieces, firstBlock, count, skipListOf, spansIn, towersIn, tablePieces, pieces, TableOk, WellFormed}
+use Rattle.blockfile.specs.WellFormed.{Kept, Piece, superblock, skipList, tower, span, Bears, freePieces, firstBlock, count, skipListOf, spansIn, towersIn, tablePieces, pieces, TableOk, WellFormed}
 use Rattle.blockfile.proofs.Every.{every-left, every-right, every-join, every-map, every-unmap}
 use Rattle.blockfile.proofs.Count.{count-append}
 use Rattle.blockfile.proofs.Owned.{ownedBy, owned-append, count-owned}
@@ -217,8 +217,8 @@ module _ (img : List ℕ) (L : Layout) where
       })
 
   -- and an image that shows it is well-formed where the rules hold
-  pub closes : Ruled L → Shows (L .pages) (L .spanSize) img (heldBy L) → WellFormed img L
-  closes r s =
+  pub closes : Ruled L → Kept (freeCount (L .free)) (be32 (pg img 1) 28) → Shows (L .pages) (L .spanSize) img (heldBy L) → WellFormed img L
+  closes r k s =
       let R : Piece → Type 0 = Bears (pg img) in
       let h : Holds (L .pages) img (allPieces (L .pages) (L .spanSize) (kindPieces (tablesOf L)) (L .free)) []
       = to-pieces (L .pages) (L .spanSize) (map skipListOf (tablesOf L)) (gather spansIn (tablesOf L)) (gather towersIn (tablesOf L)) (L .free) [] img s in
@@ -231,6 +231,7 @@ module _ (img : List ℕ) (L : Layout) where
         metaEntries = r .metaEntries;
         tablesOk = r .tablesOk;
         blocksOk = r .blocksOk;
+        kept = k;
         bears = subst (Every R) (sym (pieces-are L)) (
           h .bears .0,
           every-join R (gather tablePieces (tablesOf L)) (freePieces (L .free))
@@ -239,10 +240,3 @@ module _ (img : List ℕ) (L : Layout) where
         );
         once = λ n. sym (same-once n) ∙ h .once n;
       }
-
-  -- the same, from lists that are equal to the layout's
-  pub closes-by : (p z : ℕ) (ks : List SkipList) (xs : List LinkedSpan) (ts : List LinkedTower) (bs : List Block) → Ruled L → p ≡ L .pages → z ≡ L .spanSize
-      → ks ≡ heldBy L .skips → xs ≡ heldBy L .spans → ts ≡ heldBy L .towers → bs ≡ L .free → Shows p z img (held ks xs ts bs []) → WellFormed img L
-  closes-by p z ks xs ts bs r ep ez ek ex et eb s =
-      let e : held ks xs ts bs [] ≡ heldBy L = held-same ks (heldBy L .skips) xs (heldBy L .spans) ts (heldBy L .towers) bs (L .free) [] ek ex et eb in
-      closes r (subst₃ (λ (m k : ℕ) (h : Held). Shows m k img h) ep ez e s)

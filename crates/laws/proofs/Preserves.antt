@@ -2,16 +2,17 @@
 use Prim.Native.Nat.{ℕ, zero, suc, _+_, _<_, _≤_}
 use native.Mathlib.Omega.{arith}
 use mathlib.Core.Path.{_≡_, refl, ap, sym, _∙_, subst}
+use mathlib.Core.Logic.{inr}
 use mathlib.Core.Bool.{false}
 use mathlib.Core.Option.{Option, none, some}
 use mathlib.Core.List.{List, [], _∷_, append-assoc}
 use lib.ListN.{length, getD, drop, drop-of-length-le}
 use borrow.Author.Tests.{ltb-false}
-use Rattle.blockfile.specs.Bytes.{Write, word32, apply, Every}
+use Rattle.blockfile.specs.Bytes.{pg, be32, Write, word32, apply, Every}
 use Rattle.blockfile.specs.Layout.{Keyed, Entry, Table, Block, Layout, columns, freeCount}
 use Rattle.blockfile.specs.Order.{nameRule, keyRule, Rising, find, insert}
 use Rattle.blockfile.specs.WellFormed.{TableOk, WellFormed}
-use Rattle.blockfile.specs.Plan.{Plan, lacks, layoutAfter, writesOf}
+use Rattle.blockfile.specs.Plan.{Plan, lacks, layoutAfter, drawnBy, changesOf, keptOn, writesOf}
 use Rattle.blockfile.specs.Free.{Drawn}
 use Rattle.blockfile.specs.Put.{target, spanAt, parts, wantedBy, rewrite, rewritePlan, putPlan}
 use Rattle.blockfile.specs.Remove.{without, unlinkPlan, leavePlan, removePlan}
@@ -23,7 +24,9 @@ use Rattle.laws.specs.Owned.{inOption}
 use Rattle.laws.proofs.Orders.{names-ordered, keys-ordered}
 use Rattle.laws.proofs.Maps.{insert-found}
 use Rattle.laws.proofs.Targets.{target-is}
-use Rattle.laws.proofs.State.{heldBy}
+use Rattle.laws.proofs.State.{Shows, heldBy}
+use Rattle.laws.proofs.Writes.{apply-append}
+use Rattle.laws.proofs.Kepts.{free-few, counted, counted-shows, counted-true}
 use Rattle.laws.proofs.Opens.{opens, closes}
 use Rattle.laws.proofs.Draws.{few-drawn, length-drawn}
 use Rattle.laws.proofs.TablePut.{tableWith, putInto, put-few}
@@ -69,8 +72,8 @@ module _ (L : Layout) (ok : LayoutOk L) (few : Every (λ b. length (b .listed) �
     -- a span rewritten
     rewritten : (i : ℕ) (es : List Entry) → i < length (columns t) → length es ≤ t .spanSize + 1 → lacks L (rewritePlan L n t i es) ≡ false
         → LayoutOk (layoutAfter L (rewritePlan L n t i es))
-        → Turns (L .pages) (L .spanSize) (writesOf L (rewritePlan L n t i es)) (heldBy L) (heldBy (layoutAfter L (rewritePlan L n t i es)))
-    unfolding writesOf layoutAfter rewritePlan rewrite lacks
+        → Turns (L .pages) (L .spanSize) (changesOf L (rewritePlan L n t i es)) (heldBy L) (heldBy (layoutAfter L (rewritePlan L n t i es)))
+    unfolding changesOf layoutAfter rewritePlan rewrite lacks
     rewritten i es inside most h done =
         let w : ℕ = wantedBy (parts t es) in
         let room : w ≤ length (spanAt t i .conts) + freeCount (L .free) = ltb-false (length (spanAt t i .conts) + freeCount (L .free)) w h in
@@ -82,14 +85,14 @@ module _ (L : Layout) (ok : LayoutOk L) (few : Every (λ b. length (b .listed) �
 
     -- a span unlinked
     unlinked : (k : ℕ) → suc k < length (columns t) → LayoutOk (layoutAfter L (unlinkPlan L n t (suc k)))
-        → Turns (L .pages) (L .spanSize) (writesOf L (unlinkPlan L n t (suc k))) (heldBy L) (heldBy (layoutAfter L (unlinkPlan L n t (suc k))))
-    unfolding writesOf layoutAfter unlinkPlan
+        → Turns (L .pages) (L .spanSize) (changesOf L (unlinkPlan L n t (suc k))) (heldBy L) (heldBy (layoutAfter L (unlinkPlan L n t (suc k))))
+    unfolding changesOf layoutAfter unlinkPlan
     unlinked k inside done =
         table-turned L n t (without t (suc k)) _ _ rising found
         (λ o. unlink-turn t k inside (keyRule n) tableOk (made-ok (L .tables) n (without t (suc k)) (done .tablesOk)) o (L .free) few)
 
     left : (i : ℕ) (es : List Entry) → i < length (columns t) → length es ≤ t .spanSize → lacks L (leavePlan L n t i es) ≡ false → LayoutOk (layoutAfter L (leavePlan L n t i es))
-        → Turns (L .pages) (L .spanSize) (writesOf L (leavePlan L n t i es)) (heldBy L) (heldBy (layoutAfter L (leavePlan L n t i es)))
+        → Turns (L .pages) (L .spanSize) (changesOf L (leavePlan L n t i es)) (heldBy L) (heldBy (layoutAfter L (leavePlan L n t i es)))
     left zero es inside most h done = rewritten zero es inside (omega arith) h done
     left (suc k) [] inside most h done = unlinked k inside done
     left (suc k) (e ∷ es) inside most h done = rewritten (suc k) (e ∷ es) inside (omega arith) h done
@@ -97,14 +100,14 @@ module _ (L : Layout) (ok : LayoutOk L) (few : Every (λ b. length (b .listed) �
     -- ---- Put and remove
 
     put-turn : (k v : List ℕ) → lacks L (putPlan L n t k v) ≡ false → LayoutOk (layoutAfter L (putPlan L n t k v))
-        → Turns (L .pages) (L .spanSize) (writesOf L (putPlan L n t k v)) (heldBy L) (heldBy (layoutAfter L (putPlan L n t k v)))
+        → Turns (L .pages) (L .spanSize) (changesOf L (putPlan L n t k v)) (heldBy L) (heldBy (layoutAfter L (putPlan L n t k v)))
     unfolding putPlan
     put-turn k v h done =
         rewritten (target (keyRule n) k t) (putInto (keyRule n) t k v) (target-is (keyRule n) (keys-ordered n) k t tableOk .place)
         (put-few (keyRule n) (keys-ordered n) t tableOk k v) h done
 
     remove-turn : (k : List ℕ) → lacks L (removePlan L n t k) ≡ false → LayoutOk (layoutAfter L (removePlan L n t k))
-        → Turns (L .pages) (L .spanSize) (writesOf L (removePlan L n t k)) (heldBy L) (heldBy (layoutAfter L (removePlan L n t k)))
+        → Turns (L .pages) (L .spanSize) (changesOf L (removePlan L n t k)) (heldBy L) (heldBy (layoutAfter L (removePlan L n t k)))
     unfolding removePlan
     remove-turn k h done =
         left (target (keyRule n) k t) (leftBy (keyRule n) t k) (target-is (keyRule n) (keys-ordered n) k t tableOk .place) (left-fits (keyRule n) (keys-ordered n) t tableOk k) h done
@@ -112,8 +115,8 @@ module _ (L : Layout) (ok : LayoutOk L) (few : Every (λ b. length (b .listed) �
   -- ---- Create
 
   create-turn : (n : List ℕ) → find n (L .tables) ≡ none → lacks L (createPlan L n) ≡ false → LayoutOk (layoutAfter L (createPlan L n))
-      → Turns (L .pages) (L .spanSize) (writesOf L (createPlan L n)) (heldBy L) (heldBy (layoutAfter L (createPlan L n)))
-  unfolding writesOf layoutAfter createPlan rewrite lacks
+      → Turns (L .pages) (L .spanSize) (changesOf L (createPlan L n)) (heldBy L) (heldBy (layoutAfter L (createPlan L n)))
+  unfolding changesOf layoutAfter createPlan rewrite lacks
   create-turn n absent h done =
       let meta : Table = L .meta in
       let i : ℕ = target nameRule n meta in
@@ -142,7 +145,7 @@ module _ (L : Layout) (ok : LayoutOk L) (few : Every (λ b. length (b .listed) �
 module _ (L : Layout) where
   -- the writes of the plan turn the layout into the one after it
   abbrev Turned : Plan → Type 0
-  Turned p = lacks L p ≡ false → LayoutOk (layoutAfter L p) → Turns (L .pages) (L .spanSize) (writesOf L p) (heldBy L) (heldBy (layoutAfter L p))
+  Turned p = lacks L p ≡ false → LayoutOk (layoutAfter L p) → Turns (L .pages) (L .spanSize) (changesOf L p) (heldBy L) (heldBy (layoutAfter L p))
 
   turned-as : (o : Option Plan) (p q : Plan) → o ≡ some p → o ≡ some q → Turned q → Turned p
   turned-as o p q e d t = let i : q ≡ p = cc in subst Turned i t
@@ -166,21 +169,39 @@ module _ (img : List ℕ) (L : Layout) (op : Op) (room : ℕ) (w : WellFormed im
   done-so : (p : Plan) → planOf L op ≡ some p → lacks L p ≡ false → Done L op (layoutAfter L p)
   done-so p e h = done-after L op room p (layout-ok img L w) allowed e h
 
-  -- what a done call writes leaves a well-formed image, with the layout that the plan says
-  pub well-after : (p : Plan) → planOf L op ≡ some p → lacks L p ≡ false → WellFormed (apply (writesOf L p) img) (layoutAfter L p)
-  unfolding layoutAfter
-  well-after p e h =
-      let d : LayoutOk (layoutAfter L p) = done-so p e h .ok in
-      closes (apply (writesOf L p) img) (layoutAfter L p)
-      (record {
-        spanSize = d .spanSize;
-        metaPage = d .metaPage;
-        metaOk = d .metaOk;
-        metaEntries = d .metaEntries;
-        tablesOk = d .tablesOk;
-        blocksOk = few-drawn (p .old) (p .wanted) (p .gone) (L .free) (w .blocksOk);
-      })
-      (plan-turn L op room (layout-ok img L w) (w .blocksOk) allowed p e h d .turn img (opens img L w))
+  module _ (p : Plan) (e : planOf L op ≡ some p) (h : lacks L p ≡ false) where
+    -- before the count of free pages is written, the image shows what the layout after the call holds
+    shown-after : Shows (L .pages) (L .spanSize) (apply (changesOf L p) img) (heldBy (layoutAfter L p))
+    shown-after = plan-turn L op room (layout-ok img L w) (w .blocksOk) allowed p e h (done-so p e h .ok) .turn img (opens img L w)
+
+    counted-after : apply (writesOf L p) img ≡ counted shown-after
+    unfolding writesOf layoutAfter
+    counted-after = apply-append (changesOf L p) (keptOn (freeCount (drawnBy L p .free)) ∷ []) img
+
+    pub few-after : freeCount (drawnBy L p .free) ≤ 4096
+    unfolding layoutAfter
+    few-after = free-few shown-after
+
+    -- a done call leaves the count true
+    pub count-after : be32 (pg (apply (writesOf L p) img) 1) 28 ≡ freeCount (layoutAfter L p .free) + 1
+    count-after = ap (λ (i : List ℕ). be32 (pg i 1) 28) counted-after ∙ counted-true shown-after
+
+    -- what a done call writes leaves a well-formed image, with the layout that the plan says
+    pub well-after : WellFormed (apply (writesOf L p) img) (layoutAfter L p)
+    unfolding layoutAfter
+    well-after =
+        let d : LayoutOk (layoutAfter L p) = done-so p e h .ok in
+        closes (apply (writesOf L p) img) (layoutAfter L p)
+        (record {
+          spanSize = d .spanSize;
+          metaPage = d .metaPage;
+          metaOk = d .metaOk;
+          metaEntries = d .metaEntries;
+          tablesOk = d .tablesOk;
+          blocksOk = few-drawn (p .old) (p .wanted) (p .gone) (L .free) (w .blocksOk);
+        })
+        (inr count-after)
+        (subst (λ (i : List ℕ). Shows (L .pages) (L .spanSize) i (heldBy (layoutAfter L p))) (sym counted-after) (counted-shows shown-after))
 
 -- what a done call writes leaves a well-formed image with the ledger's tables
 pub preserved : Preserved

@@ -9,10 +9,10 @@ use mathlib.Core.Option.{Option, none, some}
 use mathlib.Core.List.{List, [], _∷_, _++_}
 use lib.ListN.{length, getD, drop}
 use Rattle.blockfile.specs.Bytes.{pg, Write, apply, Every, gather}
-use Rattle.blockfile.specs.Layout.{Entry, Table, Layout, columns, spansOf, towersOf}
+use Rattle.blockfile.specs.Layout.{Entry, Table, Layout, columns, spansOf, towersOf, freeCount}
 use Rattle.blockfile.specs.Order.{nameRule, keyRule, find}
 use Rattle.blockfile.specs.WellFormed.{count, TableOk, WellFormed}
-use Rattle.blockfile.specs.Plan.{Plan, drawnBy, lacks, layoutAfter, writesOf}
+use Rattle.blockfile.specs.Plan.{Plan, drawnBy, lacks, layoutAfter, changesOf, keptOn, writesOf}
 use Rattle.blockfile.specs.Put.{target, spanAt, rewritePlan, putPlan}
 use Rattle.blockfile.specs.Remove.{unlinkPlan, leavePlan, removePlan}
 use Rattle.blockfile.specs.Create.{createPlan}
@@ -36,13 +36,15 @@ use Rattle.laws.proofs.Allowed.{OnTable, put-allowed, remove-allowed}
 use Rattle.laws.proofs.Ledgers.{on-table}
 use Rattle.laws.proofs.Preserves.{well-after}
 use Rattle.laws.proofs.Owners.{count-pages, under-named, count-table, count-span, count-towers, take-drop-count, blocks-count, drawn-count}
-use Rattle.laws.proofs.Names.{Part, Named, first-free, counts, height, links, entries, listing, in-hand, handOf, PlanNamed, put-named, remove-named, create-named}
+use Rattle.laws.proofs.Numbers.{length-word32}
+use Rattle.laws.proofs.Names.{Part, Named, first-free, free-kept, counts, height, links, entries, listing, in-hand, handOf, PlanNamed, put-named, remove-named, create-named}
 
 -- ---- From writes to bytes
 
 -- the v bytes from offset a on of page n are in no part that a call on the table t names
 pub record Spared (t : Table) (blocks hand : List ℕ) (n a v : ℕ) : Type 0 where
   pub first-free : (count n (1 ∷ []) ≡ 0) ⊎ Apart a v 16 4
+  pub free-kept : (count n (1 ∷ []) ≡ 0) ⊎ Apart a v 28 4
   pub counts : (count n (t .root ∷ []) ≡ 0) ⊎ Apart a v 16 12
   pub height : (count n (t .head .page ∷ []) ≡ 0) ⊎ Apart a v 10 2
   pub links : (count n (firstPages (spansOf (columns t))) ≡ 0) ⊎ Apart a v 8 8
@@ -63,6 +65,7 @@ module _ (n : ℕ) where
 
     named-missed : (t : Table) (blocks hand : List ℕ) → Spared t blocks hand n a v → (w : Write) → Named t blocks hand w → Misses n a v w
     named-missed t blocks hand s w (first-free p) = part-missed (1 ∷ []) 16 4 w p (s .first-free)
+    named-missed t blocks hand s w (free-kept p) = part-missed (1 ∷ []) 28 4 w p (s .free-kept)
     named-missed t blocks hand s w (counts p) = part-missed (t .root ∷ []) 16 12 w p (s .counts)
     named-missed t blocks hand s w (height p) = part-missed (t .head .page ∷ []) 10 2 w p (s .height)
     named-missed t blocks hand s w (links p) = part-missed (firstPages (spansOf (columns t))) 8 8 w p (s .links)
@@ -72,6 +75,7 @@ module _ (n : ℕ) where
 
 named-fits : (t : Table) (blocks hand : List ℕ) (w : Write) → Named t blocks hand w → Fits w
 named-fits t blocks hand w (first-free p) = omega (arith, p .high)
+named-fits t blocks hand w (free-kept p) = omega (arith, p .high)
 named-fits t blocks hand w (counts p) = omega (arith, p .high)
 named-fits t blocks hand w (height p) = omega (arith, p .high)
 named-fits t blocks hand w (links p) = omega (arith, p .high)
@@ -87,6 +91,7 @@ inParts t blocks hand n =
 
 named-page : (t : Table) (blocks hand : List ℕ) (w : Write) → Named t blocks hand w → 1 ≤ inParts t blocks hand (w .page)
 named-page t blocks hand w (first-free p) = omega (arith, p .page)
+named-page t blocks hand w (free-kept p) = omega (arith, p .page)
 named-page t blocks hand w (counts p) = omega (arith, p .page)
 named-page t blocks hand w (height p) = omega (arith, p .page)
 named-page t blocks hand w (links p) = omega (arith, p .page)
@@ -131,6 +136,7 @@ module _ (L : Layout) (t : Table) (i : ℕ) (p : Plan) (x : PlanNamed L t i p) w
 
   given-more : (w : Write) → Named t (blockPages L) (givenBy p) w → Named t (blockPages L) hands w
   given-more w (first-free q) = first-free q
+  given-more w (free-kept q) = free-kept q
   given-more w (counts q) = counts q
   given-more w (height q) = height q
   given-more w (links q) = links q
@@ -141,6 +147,7 @@ module _ (L : Layout) (t : Table) (i : ℕ) (p : Plan) (x : PlanNamed L t i p) w
 
   made-more : (w : Write) → Named (x .made) [] (x .hand) w → Named t (blockPages L) hands w
   made-more w (first-free q) = first-free q
+  made-more w (free-kept q) = free-kept q
   made-more w (counts q) = counts (subst (λ (r : ℕ). Part (r ∷ []) 16 28 w) (x .root) q)
   made-more w (height q) = height (subst (λ (r : ℕ). Part (r ∷ []) 10 12 w) (x .head) q)
   made-more w (links q) = links (part-more (firstPages (spansOf (columns (x .made)))) (firstPages (spansOf (columns t))) 8 16 w (λ c. omega (arith, x .firsts (w .page))) q)
@@ -151,11 +158,13 @@ module _ (L : Layout) (t : Table) (i : ℕ) (p : Plan) (x : PlanNamed L t i p) w
 
   -- all that a plan writes
   pub all-named : Every (Named t (blockPages L) (handOf L t i p)) (writesOf L p)
-  unfolding writesOf
+  unfolding writesOf changesOf
   all-named =
-      every-join (Named t (blockPages L) hands) (drawnBy L p .writes) (p .make (drawnBy L p .pages) .writes)
+      every-join (Named t (blockPages L) hands) (drawnBy L p .writes ++ p .make (drawnBy L p .pages) .writes) (keptOn (freeCount (drawnBy L p .free)) ∷ [])
+      (every-join (Named t (blockPages L) hands) (drawnBy L p .writes) (p .make (drawnBy L p .pages) .writes)
       (every-so (Named t (blockPages L) (givenBy p)) given-more (drawnBy L p .writes) (x .drawing))
-      (every-so (Named (x .made) [] (x .hand)) made-more (p .make (drawnBy L p .pages) .writes) (x .making))
+      (every-so (Named (x .made) [] (x .hand)) made-more (p .make (drawnBy L p .pages) .writes) (x .making)))
+      (free-kept (record { page = omega (arith, count-here 1 []); low = omega arith; high = omega (arith, length-word32 (freeCount (drawnBy L p .free) + 1)) }), tt)
 
 -- a plan changes the table t at the span at place i; its writes are those that document 01 names
 pub record Change (L : Layout) (t : Table) (i : ℕ) (p : Plan) : Type 0 where
@@ -318,6 +327,7 @@ module _ (img : List ℕ) (L : Layout) (t : Table) (i : ℕ) (p : Plan) (c : Cha
       let k : Counts n = counted n in
       record {
         first-free = inl (omega (arith, k .once));
+        free-kept = inl (omega (arith, k .once));
         counts = inl (omega (arith, k .once, k .parts));
         height = inl (omega (arith, k .once, k .parts, k .head));
         links = inl (omega (arith, k .once, k .parts));
@@ -328,7 +338,7 @@ module _ (img : List ℕ) (L : Layout) (t : Table) (i : ℕ) (p : Plan) (c : Cha
 
   -- a page given back, behind its free mark, or behind what a block lists where it becomes one: m is where that ends
   given-back : (n : ℕ) → 1 ≤ count n (givenBy p) → (m : ℕ) → 8 ≤ m → Bounded n m (drawnBy L p .free) → (a v : ℕ) → m ≤ a → SameBytes img L p n a v
-  unfolding writesOf
+  unfolding writesOf changesOf
   given-back n is m low bound a v past =
       let k : Counts n = counted n in
       let x : PlanNamed L t i p = c .writes in
@@ -336,14 +346,16 @@ module _ (img : List ℕ) (L : Layout) (t : Table) (i : ℕ) (p : Plan) (c : Cha
       let off : n ≡ 1 → ⊥ = λ e. not-super (k .once) mine e in
       let dw : List Write = drawnBy L p .writes in
       let mw : List Write = p .make (drawnBy L p .pages) .writes in
-      agree-missed n a v (dw ++ mw) img
-      (every-so (Named t (blockPages L) (handOf L t i p)) (named-fits t (blockPages L) (handOf L t i p)) (dw ++ mw)
-      (all-named L t i p x))
+      let ws : List Write = (dw ++ mw) ++ (keptOn (freeCount (drawnBy L p .free)) ∷ []) in
+      agree-missed n a v ws img
+      (every-so (Named t (blockPages L) (handOf L t i p)) (named-fits t (blockPages L) (handOf L t i p)) ws (all-named L t i p x))
+      (every-join (Misses n a v) (dw ++ mw) (keptOn (freeCount (drawnBy L p .free)) ∷ [])
       (every-join (Misses n a v) dw mw
       (every-so (Ends n m) ended dw (draw-ends n m off low (p .old) (p .wanted) (p .gone) (L .free) (omega (arith, k .once, k .blocks)) bound))
       (every-so (Spares n) (λ w e. inl e) mw
       (pages-apart (x .made) [] (x .hand) mw n (x .making)
       (omega (arith, k .once, k .parts, x .apart n (omega (arith, k .once)) is, ap (λ (r : ℕ). count n (r ∷ [])) (x .root), k .conts, k .gone, k .dropped, count-append n (drop (p .wanted) (p .old)) (p .gone))))))
+      (inl off, tt))
     where
       not-super : count n (1 ∷ []) + (count n (tablePages t) + count n (freePages (L .free))) ≤ 1 → 1 ≤ count n (tablePages t) → n ≡ 1 → ⊥
       not-super o h e = omega (arith, ap (λ (j : ℕ). count j (1 ∷ [])) e)
@@ -359,11 +371,12 @@ module _ (img : List ℕ) (L : Layout) (t : Table) (i : ℕ) (p : Plan) (c : Cha
   pub stays : Stays img L t i p
   stays =
       record {
-        super-bytes = λ a v off.
+        super-bytes = λ a v off away.
             let k : Counts 1 = counted 1 in
             stays-by 1 a v
             (record {
               first-free = inr off;
+              free-kept = inr away;
               counts = inl (omega (arith, k .once, k .parts));
               height = inl (omega (arith, k .once, k .parts, k .head));
               links = inl (omega (arith, k .once, k .parts));
@@ -377,6 +390,7 @@ module _ (img : List ℕ) (L : Layout) (t : Table) (i : ℕ) (p : Plan) (c : Cha
             stays-by (t .root) a v
             (record {
               first-free = inl (omega (arith, k .once, k .parts));
+              free-kept = inl (omega (arith, k .once, k .parts));
               counts = inr off;
               height = inl (omega (arith, k .once, k .parts, k .head));
               links = inl (omega (arith, k .once, k .parts));
@@ -389,6 +403,7 @@ module _ (img : List ℕ) (L : Layout) (t : Table) (i : ℕ) (p : Plan) (c : Cha
             stays-by n a v
             (record {
               first-free = inl (omega (arith, k .once, k .parts));
+              free-kept = inl (omega (arith, k .once, k .parts));
               counts = inl (omega (arith, k .once, k .parts));
               height = head;
               links = inl (omega (arith, k .once, k .parts));
@@ -401,6 +416,7 @@ module _ (img : List ℕ) (L : Layout) (t : Table) (i : ℕ) (p : Plan) (c : Cha
             stays-by n a v
             (record {
               first-free = inl (omega (arith, k .once, k .parts));
+              free-kept = inl (omega (arith, k .once, k .parts));
               counts = inl (omega (arith, k .once, k .parts));
               height = inl (omega (arith, k .once, k .parts, k .head));
               links = inr off;
@@ -413,6 +429,7 @@ module _ (img : List ℕ) (L : Layout) (t : Table) (i : ℕ) (p : Plan) (c : Cha
             stays-by n a v
             (record {
               first-free = inl (omega (arith, k .once, k .parts));
+              free-kept = inl (omega (arith, k .once, k .parts));
               counts = inl (omega (arith, k .once, k .parts));
               height = inl (omega (arith, k .once, k .parts, k .head));
               links = inl (omega (arith, k .once, k .parts));

@@ -6,8 +6,8 @@ use mathlib.Core.Bool.{false}
 use mathlib.Core.List.{List, [], _∷_, _++_, map}
 use mathlib.Core.Option.{none, some}
 use lib.ListN.{length}
-use Rattle.blockfile.specs.Bytes.{pg, apply, gather}
-use Rattle.blockfile.specs.Layout.{Entry, entriesEnd, Table, Layout, columns, spansOf, towersOf}
+use Rattle.blockfile.specs.Bytes.{pg, be32, apply, gather}
+use Rattle.blockfile.specs.Layout.{Entry, entriesEnd, Table, Layout, columns, spansOf, towersOf, freeCount}
 use Rattle.blockfile.specs.Order.{nameRule, keyRule, same, find}
 use Rattle.blockfile.specs.WellFormed.{count, WellFormed, Accepted, Rejected}
 use Rattle.blockfile.specs.Plan.{Plan, drawnBy, layoutAfter, writesOf}
@@ -84,8 +84,8 @@ SameBytes img L p n a v = Agree v (pg (apply (writesOf L p) img) n) a (pg img n)
 
 -- what a plan leaves that changes the table t at the span at place i; a page is in a list where it is counted there
 pub record Stays (img : List ℕ) (L : Layout) (t : Table) (i : ℕ) (p : Plan) : Type 0 where
-  -- the superblock but for bytes 16 to 19
-  pub super-bytes : (a v : ℕ) → Apart a v 16 4 → SameBytes img L p 1 a v
+  -- the superblock but for bytes 16 to 19 and 28 to 31
+  pub super-bytes : (a v : ℕ) → Apart a v 16 4 → Apart a v 28 4 → SameBytes img L p 1 a v
   -- the table's skip-list page but for bytes 16 to 27
   pub root-bytes : (a v : ℕ) → Apart a v 16 12 → SameBytes img L p (t .root) a v
   -- a tower that is not gone, before its entries; the head but for bytes 10 and 11
@@ -119,6 +119,14 @@ unfoldable pub WellAfter : Type 0
 WellAfter =
     (img : List ℕ) (L : Layout) (op : Op) (room : ℕ) (p : Plan) → WellFormed img L → Does L op room p
     → WellFormed (apply (writesOf L p) img) (layoutAfter L p)
+
+-- ---- Request T-06: the superblock keeps the count of free pages
+
+-- a done call leaves it true, whether it was kept before or not: F plus 1 of the layout after the call
+unfoldable pub CountKept : Type 0
+CountKept =
+    (img : List ℕ) (L : Layout) (op : Op) (room : ℕ) (p : Plan) → WellFormed img L → Does L op room p
+    → be32 (pg (apply (writesOf L p) img) 1) 28 ≡ freeCount (layoutAfter L p .free) + 1
 
 -- ---- Demand 3: room. 10 is answered only where `noRoom` is true
 

@@ -1,7 +1,9 @@
-// The free list: a page taken from it, a page given back, the pages taken next.
+// The free list: a page taken from it, a page given back, the pages taken next; the count of free pages kept.
 ghost use mathlib.Core.Path.{_≡_};
-ghost use Prim.Native.Nat.{_<_};
+ghost use mathlib.Core.List.{[], _∷_};
+ghost use Prim.Native.Nat.{_≤_, _<_};
 ghost use Rattle.blockfile.specs.Bytes.{apply};
+ghost use Rattle.blockfile.specs.Plan.{keptOn};
 ghost use Rattle.laws.proofs.FreeRead.{listWrites, blockWrites};
 ghost use Rattle.pages.specs.Places.{Inside};
 ghost use Rattle.pages.specs.Taking.{Takeable, Took, Giveable, Gave, Ahead, TakenAfter};
@@ -83,4 +85,12 @@ pub fn give_page(image: &mut [u8], page: usize)
         return;
     }
     block_page(image, page, first)
+}
+
+// Writes the superblock's count of `free` free pages, which is one more: 0 stands for a count that is not kept.
+pub fn keep_count(image: &mut [u8], free: usize)
+    requires { ⌜ Inside (now image) 1 28 4 × (free ≤ 4096) ⌝ }
+    ensures { λ _. ⌜ now (image .exit) ≡ apply (keptOn free ∷ []) (now (image .entry)) ⌝ }
+{
+    put32(image, 1, 28, free + 1)
 }

@@ -11,7 +11,7 @@ use lib.Dec.{T}
 use Rattle.blockfile.specs.Bytes.{Write, apply}
 use Rattle.blockfile.specs.Layout.{Entry, Tower, Column, Table, Layout, columns, towerIn, towersOf, entriesOf, freeCount}
 use Rattle.blockfile.specs.Order.{keyRule, same, find, erase}
-use Rattle.blockfile.specs.Plan.{writesOf}
+use Rattle.blockfile.specs.Plan.{changesOf}
 use Rattle.blockfile.specs.Put.{spanAt, parts, wantedBy, rewritePlan}
 use Rattle.blockfile.specs.Remove.{towersAt, unlinkPlan, leavePlan, removePlan}
 use Rattle.blockfile.proofs.Bools.{same-eq}
@@ -187,7 +187,7 @@ module _ {img : List ℕ} {d : TableRef} {L : Layout} {name : List ℕ} {t : Tab
                 subst (λ (j : ℕ). m ≤ length (spanAt t j .conts) + 2) (sym (later .1)) (omega (arith, gone-many, one-at-most (drop (suc (later .0)) (columns t))))
 
             gone-done : {free : ℕ} → freeCount (L .free) ≡ free → CarriedOut img L (removePlan L name t k) (free + m) out
-            unfolding writesOf unlinkPlan
+            unfolding changesOf unlinkPlan
             gone-done {free} e =
                 let j : ℕ = suc (later .0) in
                 let ts : List ℕ = map (λ (w : Tower). w .page) (towersAt t j) in

@@ -8,10 +8,10 @@ use mathlib.Core.List.{List, [], _∷_, _++_, map}
 use lib.ListN.{length, length-map}
 use lib.Dec.{T, leb, le→leb}
 use Rattle.blockfile.specs.declared.Counts.{Counts}
-use Rattle.blockfile.specs.Bytes.{pg, Every, gather}
+use Rattle.blockfile.specs.Bytes.{pg, be32, Every, gather}
 use Rattle.blockfile.specs.Layout.{Keyed, Entry, Table, Block, Layout, entriesOf, freeCount}
 use Rattle.blockfile.specs.Order.{Within, within, allWithin, KeyRule, nameRule, bytesRule, keyRule, Rising}
-use Rattle.blockfile.specs.WellFormed.{Piece, superblock, pagesOf, Bears, TableOk, tablePieces, freePieces, firstBlock, pieces, WellFormed}
+use Rattle.blockfile.specs.WellFormed.{Piece, superblock, pagesOf, Bears, TableOk, tablePieces, freePieces, firstBlock, pieces, Kept, WellFormed}
 use Rattle.blockfile.proofs.Bools.{and-both, both-and, within-is}
 use Rattle.blockfile.proofs.Every.{every-so}
 use Rattle.heads.specs.Claims.{pagesIn, Room, Lent, Headed, full}
@@ -341,12 +341,17 @@ module _ (img : List ℕ) (p first : ℕ) (scr : List ℕ) (m : ℕ) (mid : List
 
 -- ---- The verdict. No page is claimed at the start
 
+-- what is tested at the end: every page is claimed, and the superblock's count of free pages is true, if it is kept
+pub record AtEnd (img : List ℕ) (c : Counts) (out : List ℕ) : Type 0 where
+  pub all : full out ≡ true
+  pub kept : Kept (c .free) (be32 (pg img 1) 28)
+
 module _ (img : List ℕ) (p : ℕ) (size : length img ≡ 1024 * p) (range : Within 4 4096 p) (scr : List ℕ) (none : AllOpen p scr) where
   count-is : pagesIn scr ≡ p
   count-is = omega (arith, none .long)
 
-  -- with every page claimed, what is found from the start is the layout of a well-formed image
-  well : (c : Counts) (out : List ℕ) (w : Whole img scr c out) → full out ≡ true → WellFormed img (w .layout)
+  -- what is found from the start, with what is tested at the end, is the layout of a well-formed image
+  well : (c : Counts) (out : List ℕ) (w : Whole img scr c out) → AtEnd img c out → WellFormed img (w .layout)
   well c out w e =
       let q : w .layout .pages ≡ p = w .pages ∙ count-is in
       record {
@@ -358,15 +363,16 @@ module _ (img : List ℕ) (p : ℕ) (size : length img ≡ 1024 * p) (range : Wi
         metaEntries = w .metaEntries;
         tablesOk = w .tablesOk;
         blocksOk = w .blocksOk;
+        kept = subst (λ (d : Counts). Kept (d .free) (be32 (pg img 1) 28)) (w .counts) (e .kept);
         bears = w .found .bears;
-        once = λ n. claimed-once p scr none (gather pagesOf (pieces (w .layout))) (w .found .fresh) (subst (λ (s : List ℕ). full s ≡ true) (w .found .left) e) n ∙ ap (λ (k : ℕ). once-at k n) (sym q);
+        once = λ n. claimed-once p scr none (gather pagesOf (pieces (w .layout))) (w .found .fresh) (subst (λ (s : List ℕ). full s ≡ true) (w .found .left) (e .all)) n ∙ ap (λ (k : ℕ). once-at k n) (sym q);
       }
     where
       once-at : ℕ → ℕ → ℕ
       once-at k n = cond (within 1 k n) 1 0
 
-  -- a well-formed image's layout is found from the start, and every page is claimed
-  whole : (L : Layout) → WellFormed img L → (out : List ℕ) × Whole img scr (countsOf L) out × (full out ≡ true)
+  -- a well-formed image's layout is found from the start, and the tests at the end hold
+  whole : (L : Layout) → WellFormed img L → (out : List ℕ) × Whole img scr (countsOf L) out × AtEnd img (countsOf L) out
   whole L w =
       let q : L .pages ≡ p = same (length img) (L .pages) p (w .size) size in
       let o = once-claimed p scr none (gather pagesOf (pieces L)) (λ n. w .once n ∙ ap (λ (k : ℕ). once-at k n) q) in (
@@ -383,7 +389,7 @@ module _ (img : List ℕ) (p : ℕ) (size : length img ≡ 1024 * p) (range : Wi
           found = record { bears = w .bears; fresh = o .0; left = refl };
           counts = refl;
         },
-        o .1,
+        record { all = o .1; kept = w .kept },
       )
     where
       same : (n a b : ℕ) → n ≡ 1024 * a → n ≡ 1024 * b → a ≡ b
@@ -392,14 +398,14 @@ module _ (img : List ℕ) (p : ℕ) (size : length img ≡ 1024 * p) (range : Wi
       once-at : ℕ → ℕ → ℕ
       once-at k n = cond (within 1 k n) 1 0
 
-  pub verdict-bad : ((c : Counts) (out : List ℕ) → Whole img scr c out → full out ≡ true → ⊥) → Judged img Bad
+  pub verdict-bad : ((c : Counts) (out : List ℕ) → Whole img scr c out → AtEnd img c out → ⊥) → Judged img Bad
   verdict-bad n =
       record {
         sound = λ c e. absurd (let z : _≡_ {A = ℕ} 0 1 = cc in omega arith);
         complete = λ L w. let x = whole L w in absurd (n (countsOf L) (x .0) (x .1) (x .2));
       }
 
-  pub verdict-good : (c : Counts) (out : List ℕ) → Whole img scr c out → full out ≡ true → ((d : Counts) (t : List ℕ) → Whole img scr d t → d ≡ c) → Judged img (Good c)
+  pub verdict-good : (c : Counts) (out : List ℕ) → Whole img scr c out → AtEnd img c out → ((d : Counts) (t : List ℕ) → Whole img scr d t → d ≡ c) → Judged img (Good c)
   verdict-good c out w e only =
       record {
         sound = λ d q. let i : c ≡ d = cc in (w .layout, well c out w e, sym i ∙ w .counts);
@@ -436,7 +442,7 @@ module _ (img scr : List ℕ) (headed : Headed img scr) (enough : 4096 ≤ lengt
   all-open : AllOpen (pagesIn scr) scr
   all-open = record { long = headed .lent .room .whole; free = headed .unclaimed }
 
-  bad : ((c : Counts) (out : List ℕ) → Whole img scr c out → full out ≡ true → ⊥) → Judged img Bad
+  bad : ((c : Counts) (out : List ℕ) → Whole img scr c out → AtEnd img c out → ⊥) → Judged img Bad
   bad = verdict-bad img (pagesIn scr) size range scr all-open
 
   module _ (r : Started) (s : List ℕ) (f : FindsAt Begun (SuperFound img scr) r s) where
@@ -485,14 +491,17 @@ module _ (img scr : List ℕ) (headed : Headed img scr) (enough : 4096 ≤ lengt
               only c out w = free-only img (pagesIn scr) a s m s₁ k s₂ r₃ s₃ f₃ n e₃ c out (tabled .back c out w)
 
               pub bad-unowned : full s₃ ≡ false → Judged img Bad
-              bad-unowned q = bad (λ c out w e. true≢false (sym e ∙ ap full (only c out w .1) ∙ q))
+              bad-unowned q = bad (λ c out w e. true≢false (sym (e .all) ∙ ap full (only c out w .1) ∙ q))
 
-              pub good : (p : ℕ) → p ≡ pagesIn scr → full s₃ ≡ true → Judged img (Good (counted p m k n))
-              good p i q =
+              pub bad-kept : (Kept n (be32 (pg img 1) 28) → ⊥) → Judged img Bad
+              bad-kept q = bad (λ c out w e. q (subst (λ (d : Counts). Kept (d .free) (be32 (pg img 1) 28)) (only c out w .0) (e .kept)))
+
+              pub good : (p : ℕ) → p ≡ pagesIn scr → full s₃ ≡ true → Kept n (be32 (pg img 1) 28) → Judged img (Good (counted p m k n))
+              good p i q kept =
                   let x : MetaFound img s m s₁ = f₁ .sound m e₁ in
                   let l : Listed img (pagesIn scr) a s m s₁ k s₂ (counted (pagesIn scr) m k n) s₃
                   = free-there img (pagesIn scr) a s m s₁ k s₂ r₃ s₃ f₃ n e₃ x (walked x .sound k e₂) in
                   subst (λ (x : ℕ). Judged img (Good (counted x m k n))) (sym i)
                   (verdict-good img (pagesIn scr) size range scr all-open (counted (pagesIn scr) m k n) s₃
-                  (tabled .to (counted (pagesIn scr) m k n) s₃ l) q
+                  (tabled .to (counted (pagesIn scr) m k n) s₃ l) (record { all = q; kept = kept })
                   (λ d t w. only d t w .0))

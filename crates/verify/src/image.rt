@@ -6,6 +6,7 @@ ghost use Rattle.verify.specs.Image.{Judged};
 use crate::free::verify_free;
 use crate::names::verify_tables;
 use crate::superblock::Started;
+use crate::superblock::is_kept;
 use crate::superblock::verify_superblock;
 use crate::table::verify_table;
 use blockfile::Counts;
@@ -44,6 +45,9 @@ fn judge(image: &[u8], scratch: &mut [u8]) -> Verdict
         return Verdict::Bad;
     };
     if !all_claimed(scratch) {
+        return Verdict::Bad;
+    }
+    if !is_kept(image, free) {
         return Verdict::Bad;
     }
     let pages = image.len() / 1024;

@@ -2,8 +2,10 @@
 ghost use mathlib.Core.Path.{_≡_};
 ghost use Prim.Native.Nat.{_*_};
 ghost use lib.ListN.{length};
-ghost use Rattle.blockfile.specs.Bytes.{pg};
+ghost use Rattle.blockfile.specs.Bytes.{pg, be32};
 ghost use Rattle.blockfile.specs.Order.{Within};
+ghost use Rattle.blockfile.specs.WellFormed.{Kept};
+ghost use Rattle.pages.specs.Places.{Inside};
 ghost use Rattle.heads.specs.Claims.{Lent};
 ghost use Rattle.walks.specs.Found.{Decides, FindsAt};
 ghost use Rattle.verify.specs.declared.superblock.Started.the-variants.{Begun};
@@ -62,4 +64,16 @@ pub fn verify_superblock(image: &[u8], scratch: &mut [u8]) -> Started
         return Started::Refused;
     }
     Started::Begun(get32(image, 1, 16))
+}
+
+// Whether the superblock's count of free pages is that of `free` pages, or not kept.
+pub fn is_kept(image: &[u8], free: usize) -> bool
+    requires { ⌜ Inside (now image) 1 28 4 ⌝ }
+    ensures { λ r. ⌜ Decides (Kept free (be32 (pg (now (image .entry)) 1) 28)) r ⌝ }
+{
+    let kept = get32(image, 1, 28);
+    if kept == 0 {
+        return true;
+    }
+    if kept - 1 == free { true } else { false }
 }

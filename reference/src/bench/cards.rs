@@ -336,6 +336,7 @@ fn place(pages: usize, mut meta: Table, mut tables: Vec<(Vec<u8>, Table)>) -> Sa
         pages: pages as u32,
         mounted: 0,
         span_size: 128,
+        count_kept: true,
         meta,
         tables,
         free: free_list(unused),

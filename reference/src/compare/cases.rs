@@ -132,6 +132,7 @@ fn noise(random: &mut Random) -> Vec<u8> {
     }
     let length = (PAGE * pages) as u64;
     image[8..16].copy_from_slice(&length.to_be_bytes());
+    image[28..32].fill(0);
     image
 }
 

@@ -7,6 +7,7 @@ pub mod tally;
 
 use crate::calls::Answer;
 use crate::check::check;
+use crate::counting;
 use crate::creating;
 use crate::emptying;
 use crate::entries::Entry;
@@ -43,7 +44,7 @@ pub struct Aimed {
 }
 
 /// The comparisons that are aimed at certain cases.
-pub const AIMED: [Aimed; 7] = [
+pub const AIMED: [Aimed; 8] = [
     Aimed {
         compare: put_lists,
         cases: putting::all,
@@ -67,6 +68,11 @@ pub const AIMED: [Aimed; 7] = [
     Aimed {
         compare: offset_lists,
         cases: offsets::all,
+        one_in: 1,
+    },
+    Aimed {
+        compare: count_lists,
+        cases: counting::all,
         one_in: 1,
     },
     Aimed {
@@ -94,8 +100,12 @@ pub fn images(program: &Program, seed: u64, count: u64) -> Result<Tally, Failure
                 what: format!("{} on {:?}: {what}", request.call.kind(), case.source),
             })
         };
-        let number = compare(&case.check)?.answer.number;
-        *tally.images.entry((case.source, number)).or_default() += 1;
+        let checked = compare(&case.check)?.answer;
+        self::count(&mut tally.images, [(case.source, checked.number)]);
+        if checked.number == 0 {
+            let accepted = counting::of_accepted(&case.image, checked.free);
+            self::count(&mut tally.cases, [accepted]);
+        }
         let number = compare(&case.other)?.answer.number;
         let kind = case.other.call.kind();
         *tally.calls.entry((kind, number)).or_default() += 1;
@@ -194,6 +204,12 @@ pub fn empty_lists(program: &Program, seed: u64, count: u64) -> Result<Tally, Fa
 /// and counts what they reach.
 pub fn offset_lists(program: &Program, seed: u64, count: u64) -> Result<Tally, Failure> {
     aimed_lists(program, seeds(seed, count), offsets::script)
+}
+
+/// Runs `count` lists on images that keep the free count or do not by both programs, for the seeds from
+/// `seed` on, and counts what they reach.
+pub fn count_lists(program: &Program, seed: u64, count: u64) -> Result<Tally, Failure> {
+    aimed_lists(program, seeds(seed, count), counting::script)
 }
 
 /// Makes the calls of `count` pairs of keys by both programs, from pair `first` on, and counts what

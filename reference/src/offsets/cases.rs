@@ -11,8 +11,10 @@ use crate::sort::{number, Sort};
 use crate::towers::links;
 
 /// The cases that are not made of a kind of call, a name, a number or a length.
-const FIXED: [&str; 40] = [
+const FIXED: [&str; 42] = [
     reached::GARBAGE,
+    reached::COUNT_KEPT,
+    reached::NO_COUNT,
     "bad key and value too long, table there: 4",
     "bad key and value too long, no such table: 4",
     "value too long, no such table: 5",

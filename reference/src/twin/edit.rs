@@ -21,7 +21,7 @@ const NEW_TABLE: usize = 3;
 /// The max height of a created table's head.
 const NEW_HEAD_MAX: u16 = 12;
 
-/// Puts a value under a key of a table.
+/// Puts a value under a key of a table; gives F after it.
 pub fn put<K: Keys>(
     pages: &mut [Page],
     staged: &mut [Page],
@@ -29,23 +29,23 @@ pub fn put<K: Keys>(
     table: Table,
     key: &[u8],
     value: &[u8],
-) -> Result<(), Refusal> {
+) -> Result<u64, Refusal> {
     let plan = Plan::new::<K>(pages, table, key, value.len());
     let mut draw = plan.draw(pages, free, 0)?;
     let new = plan.link(pages, staged, &mut draw);
     plan.stage(pages, staged, value);
     plan.write(pages, staged, new);
-    draw.give_back_rest(pages);
-    Ok(())
+    Ok(draw.give_back_rest(pages))
 }
 
 /// Creates a table: a put of the name into the metaindex that also wants, last, the table's pages.
+/// Gives F after it.
 pub fn create(
     pages: &mut [Page],
     staged: &mut [Page],
     free: u64,
     name: &[u8],
-) -> Result<(), Refusal> {
+) -> Result<u64, Refusal> {
     let plan = Plan::new::<Slices>(pages, Table::metaindex(pages), name, 4);
     if plan.replaces() {
         return Err(Refusal::TableExists);
@@ -57,39 +57,40 @@ pub fn create(
     plan.write(pages, staged, new);
     let (span, head) = (draw.one(pages), draw.one(pages));
     write_new_table(pages, root, span, head);
-    draw.give_back_rest(pages);
-    Ok(())
+    Ok(draw.give_back_rest(pages))
 }
 
-/// Removes a key.
+/// Removes a key; gives F after it.
 pub fn remove<K: Keys>(
     pages: &mut [Page],
     staged: &mut [Page],
+    free: u64,
     table: Table,
     key: &[u8],
-) -> Result<(), Refusal> {
+) -> Result<u64, Refusal> {
     let target = table.target::<K>(pages, key).span;
     let spot = search::spot::<K>(pages, target, key);
     if spot.entry.is_none() {
         return Err(Refusal::NoSuchKey);
     }
-    if size_of(pages, target) == 1 && target != table.first_span {
-        unlink::<K>(pages, table, key, target);
+    let given = if size_of(pages, target) == 1 && target != table.first_span {
+        unlink::<K>(pages, table, key, target)
     } else {
-        rewrite_without(pages, staged, table, target, spot.below);
-    }
-    Ok(())
+        rewrite_without(pages, staged, table, target, spot.below)
+    };
+    Ok(free + given)
 }
 
 /// Writes a span without its entry at one place. The others reach no further than before, so they
-/// keep the first of its continuation pages; what is left over is given back in chain order.
+/// keep the first of its continuation pages; what is left over is given back in chain order. Gives how
+/// many pages these are.
 fn rewrite_without(
     pages: &mut [Page],
     staged: &mut [Page],
     table: Table,
     number: u32,
     without: usize,
-) {
+) -> u64 {
     let mut writer = Writer::new(staged);
     for (place, entry) in Entries::of(pages, number).enumerate() {
         if place != without {
@@ -103,7 +104,7 @@ fn rewrite_without(
     write_span(&mut staged[0], previous, next, table.span_size, size);
     stage::copy_chain(pages, &mut staged[..=last], number);
     change_counts(pages, table.root, [-1, 0, 0]);
-    free::give_back_chain(pages, left_over);
+    free::give_back_chain(pages, left_over)
 }
 
 /// Writes the three pages of an empty table whole.
@@ -126,8 +127,8 @@ fn write_new_table(pages: &mut [Page], root: u32, span: u32, head: u32) {
 }
 
 /// Unlinks a span with this one key that is not the first, its tower (if any) too, and gives
-/// their pages back: continuation pages in chain order, span, tower.
-fn unlink<K: Keys>(pages: &mut [Page], table: Table, key: &[u8], number: u32) {
+/// their pages back: continuation pages in chain order, span, tower. Gives how many pages these are.
+fn unlink<K: Keys>(pages: &mut [Page], table: Table, key: &[u8], number: u32) -> u64 {
     let path = table.before::<K>(pages, key);
     let next = u32_at(page(pages, number), span::NEXT);
     set_u32(page_mut(pages, path.span), span::NEXT, next);
@@ -138,11 +139,13 @@ fn unlink<K: Keys>(pages: &mut [Page], table: Table, key: &[u8], number: u32) {
     let towers = if tower == 0 { 0 } else { -1 };
     change_counts(pages, table.root, [-1, -1, towers]);
     let first = link(page(pages, number));
-    free::give_back_chain(pages, first);
+    let given = free::give_back_chain(pages, first);
     free::give_back(pages, number);
-    if tower != 0 {
-        free::give_back(pages, tower);
+    if tower == 0 {
+        return given + 1;
     }
+    free::give_back(pages, tower);
+    given + 2
 }
 
 /// Takes the tower of a span out of its levels; gives its page, or 0 where the span has none.

@@ -1,4 +1,4 @@
-//! Take and give back, and drawing the pages that a call wants.
+//! Take and give back, drawing the pages that a call wants, and the kept count of the free pages.
 
 use super::page::{link, page, page_mut, set_link, set_mark, set_u32, u32_at, Page};
 use crate::page::{block, listed_number, superblock, Kind, MAX_NUMBERS, SUPERBLOCK};
@@ -9,6 +9,23 @@ fn first_block(pages: &[Page]) -> u32 {
 
 fn set_first_block(pages: &mut [Page], number: u32) {
     set_u32(page_mut(pages, SUPERBLOCK), superblock::FIRST_BLOCK, number);
+}
+
+/// The kept count that is true of so many free pages.
+fn true_count(free: u64) -> u32 {
+    free as u32 + 1
+}
+
+/// Whether the superblock keeps no count, or the true one.
+pub fn legal_count(superblock: &Page, free: u64) -> bool {
+    let kept = u32_at(superblock, superblock::KEPT_COUNT);
+    kept == 0 || kept == true_count(free)
+}
+
+/// Keeps the count of so many free pages.
+pub fn keep_count(pages: &mut [Page], free: u64) {
+    let superblock = page_mut(pages, SUPERBLOCK);
+    set_u32(superblock, superblock::KEPT_COUNT, true_count(free));
 }
 
 /// Takes a page; there must be a free one.
@@ -46,14 +63,17 @@ pub fn give_back(pages: &mut [Page], given: u32) {
     }
 }
 
-/// Gives the pages of a chain of continuation pages back, in its order.
-pub fn give_back_chain(pages: &mut [Page], first: u32) {
+/// Gives the pages of a chain of continuation pages back, in its order; gives how many they are.
+pub fn give_back_chain(pages: &mut [Page], first: u32) -> u64 {
+    let mut given = 0;
     let mut number = first;
     while number != 0 {
         let next = link(page(pages, number));
         give_back(pages, number);
+        given += 1;
         number = next;
     }
+    given
 }
 
 /// How many pages a chain of continuation pages has.
@@ -71,12 +91,15 @@ pub fn count_chain(pages: &[Page], first: u32) -> u64 {
 pub struct Draw {
     /// The first old continuation page that is left, or 0.
     old: u32,
+    /// F after the call.
+    free: u64,
 }
 
 impl Draw {
-    /// Draws first from the old continuation pages that begin with this one.
-    pub fn from(old: u32) -> Draw {
-        Draw { old }
+    /// Draws first from the old continuation pages that begin with this one; so many pages are free when
+    /// all is drawn and the rest given back.
+    pub fn from(old: u32, free: u64) -> Draw {
+        Draw { old, free }
     }
 
     /// Draws a page.
@@ -96,8 +119,9 @@ impl Draw {
         }
     }
 
-    /// What is left over is given back in chain order.
-    pub fn give_back_rest(self, pages: &mut [Page]) {
+    /// What is left over is given back in chain order; gives F after the call.
+    pub fn give_back_rest(self, pages: &mut [Page]) -> u64 {
         give_back_chain(pages, self.old);
+        self.free
     }
 }

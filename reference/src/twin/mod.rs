@@ -112,7 +112,8 @@ pub fn put(image: &mut [u8], scratch: &mut [u8], name: &[u8], key: &[u8], value:
         Sort::Bytes => try_put::<Slices>,
         Sort::Numbers => try_put::<Numbers>,
     };
-    done(put(image, scratch, name, key, value))
+    let free = put(image, scratch, name, key, value);
+    done(image, free)
 }
 
 fn try_put<K: Keys>(
@@ -121,7 +122,7 @@ fn try_put<K: Keys>(
     name: &[u8],
     key: &[u8],
     value: &[u8],
-) -> Result<(), Refusal> {
+) -> Result<u64, Refusal> {
     let (pages, counts) = open::<Slices>(image, scratch)?;
     require(legal_name(name) && legal_key(name, key), Refusal::NameOrKey)?;
     require(value.len() <= MAX_LENGTH, Refusal::ValueLength)?;
@@ -136,7 +137,8 @@ pub fn remove(image: &mut [u8], scratch: &mut [u8], name: &[u8], key: &[u8]) -> 
         Sort::Bytes => try_remove::<Slices>,
         Sort::Numbers => try_remove::<Numbers>,
     };
-    done(remove(image, scratch, name, key))
+    let free = remove(image, scratch, name, key);
+    done(image, free)
 }
 
 fn try_remove<K: Keys>(
@@ -144,20 +146,21 @@ fn try_remove<K: Keys>(
     scratch: &mut [u8],
     name: &[u8],
     key: &[u8],
-) -> Result<(), Refusal> {
-    let (pages, _) = open::<Slices>(image, scratch)?;
+) -> Result<u64, Refusal> {
+    let (pages, counts) = open::<Slices>(image, scratch)?;
     require(legal_name(name) && legal_key(name, key), Refusal::NameOrKey)?;
     let table = Table::named::<Slices>(pages, name).ok_or(Refusal::NoSuchTable)?;
     let (pages, staged) = lent(image, scratch);
-    edit::remove::<K>(pages, staged, table, key)
+    edit::remove::<K>(pages, staged, counts.free, table, key)
 }
 
 /// Creates a table.
 pub fn create(image: &mut [u8], scratch: &mut [u8], name: &[u8]) -> Answer {
-    done(try_create(image, scratch, name))
+    let free = try_create(image, scratch, name);
+    done(image, free)
 }
 
-fn try_create(image: &mut [u8], scratch: &mut [u8], name: &[u8]) -> Result<(), Refusal> {
+fn try_create(image: &mut [u8], scratch: &mut [u8], name: &[u8]) -> Result<u64, Refusal> {
     let (_, counts) = open::<Slices>(image, scratch)?;
     require(legal_name(name), Refusal::NameOrKey)?;
     let (pages, staged) = lent(image, scratch);
@@ -185,8 +188,15 @@ fn lent<'a>(image: &'a mut [u8], scratch: &'a mut [u8]) -> (&'a mut [Page], &'a 
     (page::pages_mut(image), page::pages_mut(staged))
 }
 
-fn done(outcome: Result<(), Refusal>) -> Answer {
-    outcome.map_or_else(Answer::from, |()| Answer::default())
+/// The answer of a put, remove or create, from F after it: where it is done, this count is kept.
+fn done(image: &mut [u8], free: Result<u64, Refusal>) -> Answer {
+    match free {
+        Ok(free) => {
+            free::keep_count(page::pages_mut(image), free);
+            Answer::default()
+        }
+        Err(refusal) => Answer::from(refusal),
+    }
 }
 
 fn require(holds: bool, refusal: Refusal) -> Result<(), Refusal> {

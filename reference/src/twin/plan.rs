@@ -126,11 +126,9 @@ impl<'a> Plan<'a> {
         });
         let wanted = self.continuations + split + more;
         let first = link(page(pages, self.path.span));
-        let old = count_chain(pages, first);
-        if wanted as u64 > old + free {
-            return Err(Refusal::NoRoom);
-        }
-        Ok(Draw::from(first))
+        let room = count_chain(pages, first) + free;
+        let left = room.checked_sub(wanted as u64).ok_or(Refusal::NoRoom)?;
+        Ok(Draw::from(first, left))
     }
 
     /// Draws the pages of the target and the new span, and links them in the staged pages.

@@ -6,6 +6,7 @@
 //! in time linear in the image.
 
 use super::entry::{self, Entries, Place};
+use super::free;
 use super::order::{read_on_page, Keys, Numbers, Order};
 use super::page::{bears, page, u16_at, u32_at, Behind, Head, Page, BEHIND, HEAD};
 use crate::page::{
@@ -41,6 +42,7 @@ pub fn verify<O: Order>(
     };
     let first_block = walk.superblock()?;
     let free = walk.free_list(first_block)?;
+    holds(free::legal_count(page(pages, SUPERBLOCK), free))?;
     let tables = walk.table::<O>(METAINDEX)?;
     let keys = walk.tables::<O>()?;
     holds(walk.claimed == pages.len())?;
@@ -98,7 +100,7 @@ impl<'a> Walk<'a> {
         Some(fields)
     }
 
-    /// The superblock's fields; gives the first free-list page.
+    /// The superblock's fields but for the kept count; gives the first free-list page.
     fn superblock(&mut self) -> Option<u32> {
         self.claim(SUPERBLOCK, Kind::Superblock)?;
         let page = page(self.pages, SUPERBLOCK);

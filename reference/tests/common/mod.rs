@@ -23,7 +23,7 @@ pub fn read(image: &[u8], page: u32, offset: usize, count: usize) -> &[u8] {
 }
 
 /// An image with an empty metaindex on pages 2 to 4, and page 5 a free-list block listing the
-/// pages from 6 on in rising order. Unused bytes hold 0xa5.
+/// pages from 6 on in rising order. The free count is not kept. Unused bytes hold 0xa5.
 pub fn card(pages: usize, span_size: u8) -> Vec<u8> {
     assert!((5..=257).contains(&pages));
     let mut image = vec![0xa5; 1024 * pages];
@@ -33,7 +33,7 @@ pub fn card(pages: usize, span_size: u8) -> Vec<u8> {
         &mut image,
         1,
         16,
-        &[0, 0, 0, 5, 0, 0, 0, span_size, 0, 0, 4, 0],
+        &[0, 0, 0, 5, 0, 0, 0, span_size, 0, 0, 4, 0, 0, 0, 0, 0],
     );
     write(&mut image, 2, 0, b"SkipList");
     write(&mut image, 2, 8, &[0, 0, 0, 3, 0, 0, 0, 4]);

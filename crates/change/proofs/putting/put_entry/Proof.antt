@@ -1,5 +1,6 @@
 use borrow.Author.Needs.{needs}
-use Rattle.change.proofs.Puts.{Judged, put-refused, put-ready, put-done, put-full}
+use Rattle.change.proofs.Settles.{settleable, settled}
+use Rattle.change.proofs.Puts.{Judged, put-refused, put-ready, put-tried}
 use Rattle.change.proofs.putting.put_entry.Statement.{statement}
 use Rattle.change.proofs.putting.put_entry.Tie as tie
 
@@ -16,33 +17,31 @@ judged c =
       value-is = c .before .is-value .ensures;
     }
 
-named-table-requires : tie.Need-named-table-requires
-named-table-requires c κs = let p = c .before .before .before .before .before .before .before .before .before .pre in (p .layout, p .well)
-
 put-requires : tie.Need-put-requires
 put-requires c κs =
     let p = c .before .before .before in
     let t = p .before .before in
     put-ready (judged t) (start t .pre) (t .named-table .ensures) _ (p .page .given .1)
 
-returns : tie.Need-returns
-returns c =
-    let w = c .before .before .before .before .before .before in
+settle-requires : tie.Need-settle-requires
+settle-requires c κs =
+    let w = c .before .before .before .before .before in
     let p = w .before .before .before .before in
     let t = p .before .before in
-    put-full (judged t) (start t .pre) (t .named-table .ensures) _ (p .page .given .1) _ _ (w .put .ensures) (c .enum-told2 .given .1)
+    settleable (start t .pre .well) (put-tried (judged t) (start t .pre) (t .named-table .ensures) _ (p .page .given .1) (w .put .ensures))
 
-returns-2 : tie.Need-returns-2
-returns-2 c =
+returns : tie.Need-returns
+returns c =
     let t = c .before .before .before in
     put-refused (judged t) (start t .pre) (t .named-table .ensures) _ (c .before .why .given .1)
 
-returns-3 : tie.Need-returns-3
-returns-3 c =
-    let w = c .before .before .before .before .before .before in
+returns-2 : tie.Need-returns-2
+returns-2 c =
+    let s = c .before .before in
+    let w = s .before .before .before .before .before .before in
     let p = w .before .before .before .before in
     let t = p .before .before in
-    put-done (judged t) (start t .pre) (t .named-table .ensures) _ (p .page .given .1) _ _ (w .put .ensures) _ (c .enum-told .given .1)
+    settled (start t .pre .well) (put-tried (judged t) (start t .pre) (t .named-table .ensures) _ (p .page .given .1) (w .put .ensures)) (s .settle .ensures)
 
 pub put-entry-spec : {M : Type 1} → statement M
 put-entry-spec =
@@ -51,17 +50,13 @@ put-entry-spec =
     (λ c κs. search needs)
     (λ c κs. search needs)
     (λ c κs. search needs)
-    named-table-requires
+    (λ c κs. search needs)
     (λ c. search needs)
     (λ c. search needs)
     put-requires
-    (λ c. search needs)
-    (λ c. search needs)
-    (λ c. search needs)
+    settle-requires
     (λ c. search needs)
     returns
     (λ c. search needs)
-    returns-2
     (λ c. search needs)
-    (λ c. search needs)
-    returns-3)
+    returns-2)

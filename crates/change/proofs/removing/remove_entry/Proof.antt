@@ -1,6 +1,7 @@
 use borrow.Author.Needs.{needs}
 use Rattle.change.proofs.Named.{KeyJudged}
-use Rattle.change.proofs.Removes.{remove-refused, remove-ready, remove-done, remove-missing}
+use Rattle.change.proofs.Settles.{settleable, settled}
+use Rattle.change.proofs.Removes.{remove-refused, remove-ready, remove-tried}
 use Rattle.change.proofs.removing.remove_entry.Statement.{statement}
 use Rattle.change.proofs.removing.remove_entry.Tie as tie
 
@@ -18,24 +19,25 @@ remove-requires c κs =
     let t = p .before .before in
     remove-ready (judged t) (start t .pre) (t .named-table .ensures) _ (p .page .given .1)
 
-returns : tie.Need-returns
-returns c =
-    let w = c .before .before .before .before .before .before in
+settle-requires : tie.Need-settle-requires
+settle-requires c κs =
+    let w = c .before .before .before .before .before in
     let p = w .before .before .before .before in
     let t = p .before .before in
-    remove-missing (judged t) (start t .pre) (t .named-table .ensures) _ (p .page .given .1) _ _ (w .remove .ensures) (c .enum-told2 .given .1)
+    settleable (start t .pre .well) (remove-tried (judged t) (start t .pre) (t .named-table .ensures) _ (p .page .given .1) (w .remove .ensures))
 
-returns-2 : tie.Need-returns-2
-returns-2 c =
+returns : tie.Need-returns
+returns c =
     let t = c .before .before .before in
     remove-refused (judged t) (start t .pre) (t .named-table .ensures) _ (c .before .why .given .1)
 
-returns-3 : tie.Need-returns-3
-returns-3 c =
-    let w = c .before .before .before .before .before .before in
+returns-2 : tie.Need-returns-2
+returns-2 c =
+    let s = c .before .before in
+    let w = s .before .before .before .before .before .before in
     let p = w .before .before .before .before in
     let t = p .before .before in
-    remove-done (judged t) (start t .pre) (t .named-table .ensures) _ (p .page .given .1) _ _ (w .remove .ensures) _ (c .enum-told .given .1)
+    settled (start t .pre .well) (remove-tried (judged t) (start t .pre) (t .named-table .ensures) _ (p .page .given .1) (w .remove .ensures)) (s .settle .ensures)
 
 pub remove-entry-spec : {M : Type 1} → statement M
 remove-entry-spec =
@@ -47,13 +49,9 @@ remove-entry-spec =
     (λ c. search needs)
     (λ c. search needs)
     remove-requires
-    (λ c. search needs)
-    (λ c. search needs)
-    (λ c. search needs)
+    settle-requires
     (λ c. search needs)
     returns
     (λ c. search needs)
-    returns-2
     (λ c. search needs)
-    (λ c. search needs)
-    returns-3)
+    returns-2)

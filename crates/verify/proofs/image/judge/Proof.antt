@@ -1,8 +1,10 @@
 use native.Mathlib.Omega.{arith}
 use mathlib.Core.Path.{_∙_, sym}
+use mathlib.Core.Bool.{true≢false}
 use borrow.Author.Needs.{needs}
 use borrow.Author.Tests.{not-true, not-false}
-use Rattle.verify.proofs.Images.{super-lent, meta-lent, tables-lent, bad-super, bad-meta, meta-there, bad-tables, bad-free, bad-unowned, good}
+use Rattle.verify.proofs.Supers.{super-inside}
+use Rattle.verify.proofs.Images.{super-lent, meta-lent, tables-lent, bad-super, bad-meta, meta-there, bad-tables, bad-free, bad-unowned, bad-kept, good}
 use Rattle.verify.proofs.image.judge.Statement.{statement}
 use Rattle.verify.proofs.image.judge.Tie as tie
 
@@ -119,20 +121,44 @@ returns-5 c =
     _ _ (tables .verify-tables .ensures) _ (free .before .before .before .keys .given .1) _ _ (free .verify-free .ensures) _ (c .before .before .before .before .free .given .1)
     (sym (c .before .all-claimed .ensures) ∙ not-true _ (c .if1 .taken))
 
-same-length-6 : tie.Need-same-length-6
-same-length-6 c = search needs
-
-returns-6 : tie.Need-returns-6
-returns-6 c =
+is-kept-requires : tie.Need-is-kept-requires
+is-kept-requires c κs =
     let free = c .before .before .before .before .before .before .before .before in
     let tables = free .before .before .before .before .before .before .before in
     let meta = tables .before .before .before .before .before .before .before in
     let started = meta .before .before .before .before .before .before .before in
     let p = started .before .before .before .before .pre in
+    super-inside (p .0 .lent .room) (p .1)
+
+same-length-6 : tie.Need-same-length-6
+same-length-6 c = search needs
+
+returns-6 : tie.Need-returns-6
+returns-6 c =
+    let free = c .before .before .before .before .before .before .before .before .before .before in
+    let tables = free .before .before .before .before .before .before .before in
+    let meta = tables .before .before .before .before .before .before .before in
+    let started = meta .before .before .before .before .before .before .before in
+    let p = started .before .before .before .before .pre in
+    bad-kept _ _ (p .0) (p .1) _ _ (started .verify-superblock .ensures) _ (meta .before .before .before .first .given .1) _ _ (meta .verify-table .ensures) _ (tables .before .before .before .tables .given .1)
+    _ _ (tables .verify-tables .ensures) _ (free .before .before .before .keys .given .1) _ _ (free .verify-free .ensures) _ (c .before .before .before .before .before .before .free .given .1)
+    (λ k. true≢false (sym (c .before .is-kept .ensures .complete k) ∙ not-true _ (c .if2 .taken)))
+
+same-length-7 : tie.Need-same-length-7
+same-length-7 c = search needs
+
+returns-7 : tie.Need-returns-7
+returns-7 c =
+    let free = c .before .before .before .before .before .before .before .before .before .before in
+    let tables = free .before .before .before .before .before .before .before in
+    let meta = tables .before .before .before .before .before .before .before in
+    let started = meta .before .before .before .before .before .before .before in
+    let p = started .before .before .before .before .pre in
     good _ _ (p .0) (p .1) _ _ (started .verify-superblock .ensures) _ (meta .before .before .before .first .given .1) _ _ (meta .verify-table .ensures) _ (tables .before .before .before .tables .given .1)
-    _ _ (tables .verify-tables .ensures) _ (free .before .before .before .keys .given .1) _ _ (free .verify-free .ensures) _ (c .before .before .before .before .free .given .1)
+    _ _ (tables .verify-tables .ensures) _ (free .before .before .before .keys .given .1) _ _ (free .verify-free .ensures) _ (c .before .before .before .before .before .before .free .given .1)
     _ (omega (arith, p .0 .lent .room .size))
-    (sym (c .before .all-claimed .ensures) ∙ not-false _ (c .if1 .left))
+    (sym (c .before .before .before .all-claimed .ensures) ∙ not-false _ (c .before .before .if1 .left))
+    (c .before .is-kept .ensures .sound (not-false _ (c .if2 .left)))
 
 pub judge-spec : {M : Type 1} → statement M
 judge-spec =
@@ -161,5 +187,8 @@ judge-spec =
     all-claimed-requires
     same-length-5
     returns-5
+    is-kept-requires
     same-length-6
-    returns-6)
+    returns-6
+    same-length-7
+    returns-7)
