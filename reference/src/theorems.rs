@@ -296,7 +296,7 @@ fn claims(text: &mut String, number: u64, image: &[u8], layout: &Layout, call: C
     theorem(
         text,
         &format!("kept{number}"),
-        &format!("Kept (freeCount (L{number} .free)) (be32 (getD before{number} 0 []) 28)"),
+        &format!("KeptCount (freeCount (L{number} .free)) (be32 (getD before{number} 0 []) 28)"),
         &opened,
         match layout.count_kept {
             false => "inl refl",

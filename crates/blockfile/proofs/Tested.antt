@@ -14,7 +14,7 @@ use Rattle.blockfile.specs.Marks.{superMark, skipMark, towerMark, spanMa
 use Rattle.blockfile.specs.Layout.{Entry, Table, Layout, columns, spansOf, towersOf, entriesOf, entriesFrom, lensAt, entryEnd, freeCount, reached}
 use Rattle.blockfile.specs.Order.{KeyRule, nameRule, keyRule, Within, within, same, Rising}
 use Rattle.blockfile.specs.Fields.{SkipList, LinkedSpan, LinkedTower, IsSuperblock, IsSkipList, IsTower, IsSpan, IsBlock, Numbers, EntriesAt, AreConts}
-use Rattle.blockfile.specs.WellFormed.{Piece, superblock, skipList, tower, span, block, freePage, pagesOf, Bears, pieces, TableOk, count, Kept, WellFormed}
+use Rattle.blockfile.specs.WellFormed.{Piece, superblock, skipList, tower, span, block, freePage, pagesOf, Bears, pieces, TableOk, count, KeptCount, WellFormed}
 use Rattle.blockfile.proofs.Bools.{and-both, both-and, or-either, or-left, or-right, same-refl, same-eq}
 use Rattle.blockfile.proofs.Count.{every-counted}
 
@@ -289,7 +289,7 @@ WellOn g n L =
     × ((entriesOf (L .meta) ≡ map (λ n. record { key = n .key; value = word32 (n .value .root) }) (L .tables))
     × (Every (λ n. TableOk (keyRule (n .key)) (n .value)) (L .tables)
     × (Every (λ b. length (b .listed) ≤ 252) (L .free)
-    × (Kept (freeCount (L .free)) (be32 (g 1) 28) × (Every (Bears g) (pieces L) × Once (L .pages) (gather pagesOf (pieces L))))))))))
+    × (KeptCount (freeCount (L .free)) (be32 (g 1) 28) × (Every (Bears g) (pieces L) × Once (L .pages) (gather pagesOf (pieces L))))))))))
 
 abbrev pub j-well : (g : ℕ → List ℕ) (n : ℕ) (L : Layout) → Judged (WellOn g n L)
 j-well g n L =

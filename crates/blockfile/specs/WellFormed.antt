@@ -120,8 +120,8 @@ count n [] = 0
 count n (m ∷ ms) = cond (eqb n m) 1 0 + count n ms
 
 -- the superblock's count n of the free pages f: 0 for not kept, else f plus 1
-abbrev pub Kept : (f n : ℕ) → Type 0
-Kept f n = (n ≡ 0) ⊎ (n ≡ f + 1)
+abbrev pub KeptCount : (f n : ℕ) → Type 0
+KeptCount f n = (n ≡ 0) ⊎ (n ≡ f + 1)
 
 pub record WellFormed (img : List ℕ) (L : Layout) : Type 0 where
   pub pages : Within 4 4096 (L .pages)
@@ -135,7 +135,7 @@ pub record WellFormed (img : List ℕ) (L : Layout) : Type 0 where
   -- at most 252 pages listed in a block
   pub blocksOk : Every (λ b. length (b .listed) ≤ 252) (L .free)
   -- superblock 28 to 31: the count of free pages, kept or not
-  pub kept : Kept (freeCount (L .free)) (be32 (pg img 1) 28)
+  pub kept : KeptCount (freeCount (L .free)) (be32 (pg img 1) 28)
   -- every page bears the mark, and keeps the field rules, of the kind it is owned as
   pub bears : Every (Bears (pg img)) (pieces L)
   -- each of the P pages is owned exactly once; no other number, 0 among them, is owned

@@ -1,6 +1,6 @@
 -- A call on an accepted image whose change was tried: the count of the pages left is written behind its changes, and the call is
 -- what the text says of it.
-use Prim.Native.Nat.{ℕ, _+_, _*_, _≤_}
+use Prim.Native.Nat.{ℕ, _≤_}
 use native.Mathlib.Omega.{arith}
 use mathlib.Core.Path.{_≡_, refl, ap, sym, _∙_, subst}
 use mathlib.Core.List.{List, [], _∷_}

@@ -1,5 +1,4 @@
 // A plan carried out: its entries staged, its pages drawn, its spans, its tower and its counts written.
-ghost use Prim.Native.Nat.{ℕ};
 ghost use mathlib.Core.Path.{_≡_};
 ghost use Rattle.edit.specs.Commits.{CommitReady, Committed, CommitOn, CommittedOn};
 ghost use Rattle.edit.specs.Applies.{DrawReady, DrewPlan, FlatReady, WroteFlat, TallReady, WroteTall};

@@ -42,7 +42,7 @@ pub mod Ledgers
 pub mod Remembers
 pub mod Spots
 pub mod Inside
-pub mod Kepts
+pub mod KeptCounts
 pub mod LinksWritten
 pub mod Turns
 pub mod Fitting

@@ -8,7 +8,7 @@ use Rattle.blockfile.specs.Bytes.{pg, be32, word32, Every, gather}
 use Rattle.blockfile.specs.Layout.{Keyed, Table, Block, Layout, entriesOf, freeCount}
 use Rattle.blockfile.specs.Order.{nameRule, keyRule, Within}
 use Rattle.blockfile.specs.Fields.{SkipList, LinkedSpan, LinkedTower}
-use Rattle.blockfile.specs.WellFormed.{Kept, Piece, superblock, skipList, tower, span, Bears, freePieces, firstBlock, count, skipListOf, spansIn, towersIn, tablePieces, pieces, TableOk, WellFormed}
+use Rattle.blockfile.specs.WellFormed.{KeptCount, Piece, superblock, skipList, tower, span, Bears, freePieces, firstBlock, count, skipListOf, spansIn, towersIn, tablePieces, pieces, TableOk, WellFormed}
 use Rattle.blockfile.proofs.Every.{every-left, every-right, every-join, every-map, every-unmap}
 use Rattle.blockfile.proofs.Count.{count-append}
 use Rattle.blockfile.proofs.Owned.{ownedBy, owned-append, count-owned}
@@ -217,7 +217,7 @@ module _ (img : List ℕ) (L : Layout) where
       })
 
   -- and an image that shows it is well-formed where the rules hold
-  pub closes : Ruled L → Kept (freeCount (L .free)) (be32 (pg img 1) 28) → Shows (L .pages) (L .spanSize) img (heldBy L) → WellFormed img L
+  pub closes : Ruled L → KeptCount (freeCount (L .free)) (be32 (pg img 1) 28) → Shows (L .pages) (L .spanSize) img (heldBy L) → WellFormed img L
   closes r k s =
       let R : Piece → Type 0 = Bears (pg img) in
       let h : Holds (L .pages) img (allPieces (L .pages) (L .spanSize) (kindPieces (tablesOf L)) (L .free)) []

@@ -11,7 +11,7 @@ use Rattle.blockfile.specs.declared.Counts.{Counts}
 use Rattle.blockfile.specs.Bytes.{pg, be32, Every, gather}
 use Rattle.blockfile.specs.Layout.{Keyed, Entry, Table, Block, Layout, entriesOf, freeCount}
 use Rattle.blockfile.specs.Order.{Within, within, allWithin, KeyRule, nameRule, bytesRule, keyRule, Rising}
-use Rattle.blockfile.specs.WellFormed.{Piece, superblock, pagesOf, Bears, TableOk, tablePieces, freePieces, firstBlock, pieces, Kept, WellFormed}
+use Rattle.blockfile.specs.WellFormed.{Piece, superblock, pagesOf, Bears, TableOk, tablePieces, freePieces, firstBlock, pieces, KeptCount, WellFormed}
 use Rattle.blockfile.proofs.Bools.{and-both, both-and, within-is}
 use Rattle.blockfile.proofs.Every.{every-so}
 use Rattle.heads.specs.Claims.{pagesIn, Room, Lent, Headed, full}
@@ -344,7 +344,7 @@ module _ (img : List ℕ) (p first : ℕ) (scr : List ℕ) (m : ℕ) (mid : List
 -- what is tested at the end: every page is claimed, and the superblock's count of free pages is true, if it is kept
 pub record AtEnd (img : List ℕ) (c : Counts) (out : List ℕ) : Type 0 where
   pub all : full out ≡ true
-  pub kept : Kept (c .free) (be32 (pg img 1) 28)
+  pub kept : KeptCount (c .free) (be32 (pg img 1) 28)
 
 module _ (img : List ℕ) (p : ℕ) (size : length img ≡ 1024 * p) (range : Within 4 4096 p) (scr : List ℕ) (none : AllOpen p scr) where
   count-is : pagesIn scr ≡ p
@@ -363,7 +363,7 @@ module _ (img : List ℕ) (p : ℕ) (size : length img ≡ 1024 * p) (range : Wi
         metaEntries = w .metaEntries;
         tablesOk = w .tablesOk;
         blocksOk = w .blocksOk;
-        kept = subst (λ (d : Counts). Kept (d .free) (be32 (pg img 1) 28)) (w .counts) (e .kept);
+        kept = subst (λ (d : Counts). KeptCount (d .free) (be32 (pg img 1) 28)) (w .counts) (e .kept);
         bears = w .found .bears;
         once = λ n. claimed-once p scr none (gather pagesOf (pieces (w .layout))) (w .found .fresh) (subst (λ (s : List ℕ). full s ≡ true) (w .found .left) (e .all)) n ∙ ap (λ (k : ℕ). once-at k n) (sym q);
       }
@@ -493,10 +493,10 @@ module _ (img scr : List ℕ) (headed : Headed img scr) (enough : 4096 ≤ lengt
               pub bad-unowned : full s₃ ≡ false → Judged img Bad
               bad-unowned q = bad (λ c out w e. true≢false (sym (e .all) ∙ ap full (only c out w .1) ∙ q))
 
-              pub bad-kept : (Kept n (be32 (pg img 1) 28) → ⊥) → Judged img Bad
-              bad-kept q = bad (λ c out w e. q (subst (λ (d : Counts). Kept (d .free) (be32 (pg img 1) 28)) (only c out w .0) (e .kept)))
+              pub bad-kept : (KeptCount n (be32 (pg img 1) 28) → ⊥) → Judged img Bad
+              bad-kept q = bad (λ c out w e. q (subst (λ (d : Counts). KeptCount (d .free) (be32 (pg img 1) 28)) (only c out w .0) (e .kept)))
 
-              pub good : (p : ℕ) → p ≡ pagesIn scr → full s₃ ≡ true → Kept n (be32 (pg img 1) 28) → Judged img (Good (counted p m k n))
+              pub good : (p : ℕ) → p ≡ pagesIn scr → full s₃ ≡ true → KeptCount n (be32 (pg img 1) 28) → Judged img (Good (counted p m k n))
               good p i q kept =
                   let x : MetaFound img s m s₁ = f₁ .sound m e₁ in
                   let l : Listed img (pagesIn scr) a s m s₁ k s₂ (counted (pagesIn scr) m k n) s₃

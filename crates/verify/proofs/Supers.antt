@@ -10,7 +10,7 @@ use Rattle.blockfile.specs.Bytes.{pg, be16, be32, be64}
 use Rattle.blockfile.specs.Marks.{superMark}
 use Rattle.blockfile.specs.Order.{Within}
 use Rattle.blockfile.specs.Fields.{IsSuperblock}
-use Rattle.blockfile.specs.WellFormed.{superblock, Kept}
+use Rattle.blockfile.specs.WellFormed.{superblock, KeptCount}
 use Rattle.laws.proofs.Pages.{pg-at}
 use Rattle.pages.specs.Places.{Inside}
 use Rattle.heads.specs.Claims.{pagesIn, Room, claimable, claimed, Claimed}
@@ -124,16 +124,16 @@ super-inside room enough =
     record { small = omega (arith, room .size, room .most); low = omega arith; high = omega (arith, enough); fits = omega arith }
 
 module _ (f : ℕ) {n k : ℕ} (is : k ≡ n) where
-  pub none-kept : k ≡ 0 → Decides (Kept f n) true
+  pub none-kept : k ≡ 0 → Decides (KeptCount f n) true
   none-kept e = decides-true (inl (sym is ∙ e))
 
   module _ (some : k ≡ 0 → ⊥) where
-    pub is-kept : k - 1 ≡ f → Decides (Kept f n) true
+    pub is-kept : k - 1 ≡ f → Decides (KeptCount f n) true
     is-kept e = decides-true (inr (omega (arith, is, e, some)))
 
-    pub not-kept : (k - 1 ≡ f → ⊥) → Decides (Kept f n) false
+    pub not-kept : (k - 1 ≡ f → ⊥) → Decides (KeptCount f n) false
     not-kept other = decides-false go
       where
-        go : Kept f n → ⊥
+        go : KeptCount f n → ⊥
         go (inl z) = some (is ∙ z)
         go (inr e) = other (omega (arith, is, e))

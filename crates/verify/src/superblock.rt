@@ -4,7 +4,7 @@ ghost use Prim.Native.Nat.{_*_};
 ghost use lib.ListN.{length};
 ghost use Rattle.blockfile.specs.Bytes.{pg, be32};
 ghost use Rattle.blockfile.specs.Order.{Within};
-ghost use Rattle.blockfile.specs.WellFormed.{Kept};
+ghost use Rattle.blockfile.specs.WellFormed.{KeptCount};
 ghost use Rattle.pages.specs.Places.{Inside};
 ghost use Rattle.heads.specs.Claims.{Lent};
 ghost use Rattle.walks.specs.Found.{Decides, FindsAt};
@@ -69,7 +69,7 @@ pub fn verify_superblock(image: &[u8], scratch: &mut [u8]) -> Started
 // Whether the superblock's count of free pages is that of `free` pages, or not kept.
 pub fn is_kept(image: &[u8], free: usize) -> bool
     requires { ⌜ Inside (now image) 1 28 4 ⌝ }
-    ensures { λ r. ⌜ Decides (Kept free (be32 (pg (now (image .entry)) 1) 28)) r ⌝ }
+    ensures { λ r. ⌜ Decides (KeptCount free (be32 (pg (now (image .entry)) 1) 28)) r ⌝ }
 {
     let kept = get32(image, 1, 28);
     if kept == 0 {
