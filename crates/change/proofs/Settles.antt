@@ -27,7 +27,7 @@ abbrev told : Wrote → List Write → Outcome
 told r ws = record { reply = wroteReply r; bytes = []; writes = ws }
 
 -- the plan is what the call does on the layout; all of it is written but the count of the n pages that are left
-pub record Carries (op : Op) (img : List ℕ) (L : Layout) (n : ℕ) (mid : List ℕ) : Type 0 where
+pub record Planned (op : Op) (img : List ℕ) (L : Layout) (n : ℕ) (mid : List ℕ) : Type 0 where
   pub plan : Plan
   pub outcome : outcomeOn L op 0 ≡ told Done (writesOf L plan)
   pub carried : CarriedOut img L plan n mid
@@ -36,7 +36,7 @@ pub record Carries (op : Op) (img : List ℕ) (L : Layout) (n : ℕ) (mid : List
 -- what came of the call: it is refused with f and nothing was changed, or a plan was carried out
 pub record Tried (op : Op) (img : List ℕ) (L : Layout) (f : Refusal) (a : Applied) (mid : List ℕ) : Type 0 where
   pub undone : a ≡ Nothing → (outcomeOn L op 0 ≡ told (Refused f) []) × (mid ≡ img)
-  pub made : (n : ℕ) → a ≡ Left n → Carries op img L n mid
+  pub made : (n : ℕ) → a ≡ Left n → Planned op img L n mid
 
 -- page 1 is there, also after the change
 super-inside : {img : List ℕ} {L : Layout} → WellFormed img L → (mid : List ℕ) → length mid ≡ length img → Inside mid 1 28 4

@@ -5,15 +5,14 @@ use mathlib.Core.Path.{_≡_, refl, sym, _∙_, subst}
 use mathlib.Core.Bool.{Bool, true, false, true≢false}
 use mathlib.Core.Logic.{inl, inr}
 use mathlib.Core.List.{List, []}
-use lib.ListN.{length, getD}
+use lib.ListN.{getD}
 use Rattle.blockfile.specs.Bytes.{pg, be16, be32, be64}
 use Rattle.blockfile.specs.Marks.{superMark}
 use Rattle.blockfile.specs.Order.{Within}
 use Rattle.blockfile.specs.Fields.{IsSuperblock}
 use Rattle.blockfile.specs.WellFormed.{superblock, KeptCount}
 use Rattle.laws.proofs.Pages.{pg-at}
-use Rattle.pages.specs.Places.{Inside}
-use Rattle.heads.specs.Claims.{pagesIn, Room, claimable, claimed, Claimed}
+use Rattle.heads.specs.Claims.{pagesIn, claimable, claimed, Claimed}
 use Rattle.pages.proofs.Begins.{begins-take, take-begins}
 use Rattle.walks.specs.Found.{Decides, FindsAt}
 use Rattle.walks.proofs.Founds.{decides-true, decides-false, same-start, finds-none, finds-done, found-none, claimable-open}
@@ -116,12 +115,7 @@ module _ (img scr : List ℕ) where
             k .1 ∙ sym (found-rest img scr (superblock (pagesIn scr) o (f .size)) 1 0 (super-single img _ _ _) [] t (f .found) .left),
           ))
 
--- ---- The count of free pages
-
--- page 1 is there
-pub super-inside : {img scr : List ℕ} → Room img scr → 4096 ≤ length img → Inside img 1 28 4
-super-inside room enough =
-    record { small = omega (arith, room .size, room .most); low = omega arith; high = omega (arith, enough); fits = omega arith }
+-- ---- The count of free pages, read as k
 
 module _ (f : ℕ) {n k : ℕ} (is : k ≡ n) where
   pub none-kept : k ≡ 0 → Decides (KeptCount f n) true

@@ -3,7 +3,6 @@ use mathlib.Core.Path.{_∙_, sym}
 use mathlib.Core.Bool.{true≢false}
 use borrow.Author.Needs.{needs}
 use borrow.Author.Tests.{not-true, not-false}
-use Rattle.verify.proofs.Supers.{super-inside}
 use Rattle.verify.proofs.Images.{super-lent, meta-lent, tables-lent, bad-super, bad-meta, meta-there, bad-tables, bad-free, bad-unowned, bad-kept, good}
 use Rattle.verify.proofs.image.judge.Statement.{statement}
 use Rattle.verify.proofs.image.judge.Tie as tie
@@ -128,7 +127,7 @@ is-kept-requires c κs =
     let meta = tables .before .before .before .before .before .before .before in
     let started = meta .before .before .before .before .before .before .before in
     let p = started .before .before .before .before .pre in
-    super-inside (p .0 .lent .room) (p .1)
+    record { small = omega (arith, p .0 .lent .room .size, p .0 .lent .room .most); low = omega arith; high = omega (arith, p .1); fits = omega arith }
 
 same-length-6 : tie.Need-same-length-6
 same-length-6 c = search needs
