@@ -2,19 +2,20 @@
 use Prim.Native.Nat.{ℕ, zero, suc, _+_, _<_, _≤_}
 use native.Mathlib.Omega.{arith}
 use native.Mathlib.Decide.{ℕ-discrete}
-use mathlib.Core.Path.{_≡_, refl, sym, subst}
+use mathlib.Core.Path.{_≡_, refl, ap, sym, subst}
 use mathlib.Core.Bool.{Bool, true, false, cond}
 use mathlib.Core.List.{List, [], _∷_, _++_, map}
-use lib.ListN.{length, length-map}
+use lib.ListN.{length, length-append, length-map}
 use lib.Dec.{eqb}
 use borrow.Author.Tests.{eqb-true}
 use Rattle.blockfile.specs.Bytes.{Every}
+use Rattle.blockfile.specs.Layout.{Block, freeCount}
 use Rattle.blockfile.specs.Order.{Within, within}
 use Rattle.blockfile.specs.Fields.{LinkedSpan}
-use Rattle.blockfile.specs.WellFormed.{freePieces, count}
+use Rattle.blockfile.specs.WellFormed.{Piece, freePage, freePieces, count}
 use Rattle.blockfile.proofs.Bools.{bit-low, bit-true, within-is}
 use Rattle.blockfile.proofs.Count.{count-here, count-more, count-append, every-counted}
-use Rattle.blockfile.proofs.Owned.{ownedBy}
+use Rattle.blockfile.proofs.Owned.{ownedBy, owned-append}
 use Rattle.laws.proofs.State.{Held, Shows, skipPages, spanPages, towerPages, heldPages}
 
 -- a number that four bytes hold
@@ -72,6 +73,24 @@ count-own : (n : ℕ) (xs : List LinkedSpan) → count n (ownPages xs) ≤ count
 count-own n [] = omega arith
 count-own n (x ∷ xs) = omega (arith, count-own n xs, count-append n (x .span .conts) (spanPages xs))
 
+listed-length : (ns : List ℕ) → length (ownedBy (map freePage ns)) ≡ length ns
+listed-length [] = refl
+listed-length (n ∷ ns) = omega (arith, listed-length ns)
+
+-- F is the number of pages that the free list owns
+free-length : (bs : List Block) → length (ownedBy (freePieces bs)) ≡ freeCount bs
+unfolding freeCount
+free-length [] = refl
+free-length (b ∷ bs) =
+    let more : List Piece = map freePage (b .listed) in
+    omega (
+      arith,
+      ap length (owned-append more (freePieces bs)),
+      length-append (ownedBy more) (ownedBy (freePieces bs)),
+      listed-length (b .listed),
+      free-length bs,
+    )
+
 module _ {p z : ℕ} {img : List ℕ} {h : Held} (s : Shows p z img h) where
   -- a page that is held is a page of the image
   pub held-within : (n : ℕ) → 1 ≤ count n (heldPages h) → Within 1 p n
@@ -81,7 +100,8 @@ module _ {p z : ℕ} {img : List ℕ} {h : Held} (s : Shows p z img h) where
   pub held-once : (n : ℕ) → count n (heldPages h) ≤ 1
   held-once n = subst (λ (k : ℕ). k ≤ 1) (sym (s .once n)) (bit-low (within 1 p n))
 
-  held-counts : (n : ℕ) → count n (spanPages (h .spans)) + (count n (towerPages (h .towers)) + count n (h .spare)) ≤ count n (heldPages h)
+  held-counts : (n : ℕ)
+      → count n (spanPages (h .spans)) + (count n (towerPages (h .towers)) + (count n (ownedBy (freePieces (h .free))) + count n (h .spare))) ≤ count n (heldPages h)
   held-counts n =
       omega (
         arith,
@@ -117,6 +137,13 @@ module _ {p z : ℕ} {img : List ℕ} {h : Held} (s : Shows p z img h) where
       = every-counted (Within 1 p) (ownPages (h .spans)) (λ n c. held-within n (omega (arith, held-counts n, count-own n (h .spans)))) in
       let few : length (ownPages (h .spans)) ≤ p = at-most p (ownPages (h .spans)) within-own (λ n. omega (arith, held-once n, held-counts n, count-own n (h .spans))) in
       omega (arith, length-map (h .spans) (λ (x : LinkedSpan). x .span .page), s .pages .1)
+
+  -- and as many free pages
+  pub free-few : freeCount (h .free) ≤ 4096
+  free-few =
+      let ns : List ℕ = ownedBy (freePieces (h .free)) in
+      let few : length ns ≤ p = at-most p ns (every-counted (Within 1 p) ns (λ n c. held-within n (omega (arith, held-counts n)))) (λ n. omega (arith, held-once n, held-counts n)) in
+      omega (arith, free-length (h .free), s .pages .1)
 
   -- a page of a tower or in hand is small
   pub tower-or-spare : (n : ℕ) → 1 ≤ count n (towerPages (h .towers)) + count n (h .spare) → Word n

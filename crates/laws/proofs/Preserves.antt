@@ -26,7 +26,8 @@ use Rattle.laws.proofs.Maps.{insert-found}
 use Rattle.laws.proofs.Targets.{target-is}
 use Rattle.laws.proofs.State.{Shows, heldBy}
 use Rattle.laws.proofs.Writes.{apply-append}
-use Rattle.laws.proofs.KeptCounts.{free-few, counted, counted-shows, counted-true}
+use Rattle.laws.proofs.Inside.{free-few}
+use Rattle.laws.proofs.KeptCounts.{counted, counted-shows, counted-true}
 use Rattle.laws.proofs.Opens.{opens, closes}
 use Rattle.laws.proofs.Draws.{few-drawn, length-drawn}
 use Rattle.laws.proofs.TablePut.{tableWith, putInto, put-few}

@@ -4,7 +4,7 @@ use native.Mathlib.Omega.{arith}
 use native.Mathlib.Nat.{zero-add, suc-add}
 use native.Mathlib.Decide.{ℕ-discrete, decLt}
 use mathlib.Core.Path.{_≡_, refl, ap, ap₂, sym, _∙_, subst}
-use mathlib.Core.Logic.{inl, inr, by-cases}
+use mathlib.Core.Logic.{_⊎_, inl, inr, by-cases}
 use mathlib.Core.List.{List, [], _∷_, _++_}
 use lib.ListN.{length, getD, take, drop, set, length-append, length-drop, length-set}
 use lib.Seq.{sets, slice, drop-set-lt, drop-append-le, drop-drop, take-nil, getD-drop, getD-set-same, getD-set-other, length-sets}
@@ -152,22 +152,43 @@ abbrev pub withHeight : ℕ → LinkedTower → LinkedTower
 withHeight v x = record { tower = record { page = x .tower .page; maxHeight = x .tower .maxHeight; height = v }; spanPage = x .spanPage; nexts = x .nexts }
 
 module _ (img : List ℕ) (n : ℕ) (pos : 1 ≤ n) (there : 1024 * n ≤ length img) where
+  -- a word written on the superblock, before byte 20 or from byte 28 on
+  module _ (o v : ℕ) (low : 16 ≤ o) (high : o + 4 ≤ 1024) (side : (28 ≤ o) ⊎ (o + 4 ≤ 20)) where
+    long : length (word32 v) ≡ 4
+    long = length-word32 v
+
+    fits : o + length (word32 v) ≤ 1024
+    fits = omega (arith, long)
+
+    -- bytes 20 to 27 are not in it
+    away : (a w : ℕ) → 20 ≤ a → a + w ≤ 28 → (a + w ≤ o) ⊎ (o + length (word32 v) ≤ a)
+    away a w from to = go side
+      where
+        go : (28 ≤ o) ⊎ (o + 4 ≤ 20) → (a + w ≤ o) ⊎ (o + length (word32 v) ≤ a)
+        go (inl h) = inl (omega arith)
+        go (inr h) = inr (omega (arith, long))
+
+    super-word : {p f g z : ℕ} → be32 (pg (write img n o (word32 v)) n) 16 ≡ g → IsSuperblock p f z (pg img n) → IsSuperblock p g z (pg (write img n o (word32 v)) n)
+    super-word first k =
+        record {
+          mark = take-write-off img n o (word32 v) pos fits 6 (omega arith) ∙ k .mark;
+          major = agree-write-off img n o (word32 v) pos fits 1 6 (inl (omega arith)) 0 (lit< tt) ∙ k .major;
+          minor = agree-write-off img n o (word32 v) pos fits 1 7 (inl (omega arith)) 0 (lit< tt) ∙ k .minor;
+          fileLength = be64-agree (pg (write img n o (word32 v)) n) 8 (pg img n) 8 (agree-write-off img n o (word32 v) pos fits 8 8 (inl (omega arith))) ∙ k .fileLength;
+          free = first;
+          mounted = subst (λ (m : ℕ). m ≤ 1) (sym (be16-write-off img n o (word32 v) pos fits 20 (away 20 2 (lit≤ tt) (lit≤ tt)))) (k .mounted);
+          spanSize = be16-write-off img n o (word32 v) pos fits 22 (away 22 2 (lit≤ tt) (lit≤ tt)) ∙ k .spanSize;
+          pageSize = be32-write-off img n o (word32 v) pos fits 24 (away 24 4 (lit≤ tt) (lit≤ tt)) ∙ k .pageSize;
+        }
+
   -- the superblock's first free-list page
   pub super-free : {p f z : ℕ} (v : ℕ) → v < 4294967296 → IsSuperblock p f z (pg img n) → IsSuperblock p v z (pg (write img n 16 (word32 v)) n)
-  super-free v h k =
-      let l : length (word32 v) ≡ 4 = length-word32 v in
-      let fits : 16 + length (word32 v) ≤ 1024 = omega arith in
-      record {
-        mark = take-write-off img n 16 (word32 v) pos fits 6 (lit≤ tt) ∙ k .mark;
-        major = agree-write-off img n 16 (word32 v) pos fits 1 6 (inl (lit≤ tt)) 0 (lit< tt) ∙ k .major;
-        minor = agree-write-off img n 16 (word32 v) pos fits 1 7 (inl (lit≤ tt)) 0 (lit< tt) ∙ k .minor;
-        fileLength = be64-agree (pg (write img n 16 (word32 v)) n) 8 (pg img n) 8 (agree-write-off img n 16 (word32 v) pos fits 8 8 (inl (lit≤ tt)))
-            ∙ k .fileLength;
-        free = be32-write-same img n 16 v pos there (lit≤ tt) h;
-        mounted = subst (λ (m : ℕ). m ≤ 1) (sym (be16-write-off img n 16 (word32 v) pos fits 20 (inr (omega arith)))) (k .mounted);
-        spanSize = be16-write-off img n 16 (word32 v) pos fits 22 (inr (omega arith)) ∙ k .spanSize;
-        pageSize = be32-write-off img n 16 (word32 v) pos fits 24 (inr (omega arith)) ∙ k .pageSize;
-      }
+  super-free v h k = super-word 16 v (lit≤ tt) (lit≤ tt) (inr (lit≤ tt)) (be32-write-same img n 16 v pos there (lit≤ tt) h) k
+
+  -- its count of free pages, which is none of the fields
+  pub super-kept : {p f z : ℕ} (v : ℕ) → IsSuperblock p f z (pg img n) → IsSuperblock p f z (pg (write img n 28 (word32 v)) n)
+  super-kept v k =
+      super-word 28 v (lit≤ tt) (lit≤ tt) (inl (lit≤ tt)) (be32-write-off img n 28 (word32 v) pos (omega (arith, length-word32 v)) 16 (inl (lit≤ tt)) ∙ k .free) k
 
   -- the three counts of a skip list
   pub skip-counts : {k : SkipList} (a m l : ℕ) → a < 4294967296 → m < 4294967296 → l < 4294967296 → IsSkipList k (pg img n)
