@@ -1,8 +1,9 @@
 // The trusted text: what an image is and what the calls answer. The definitions stand in specs/;
 // here are the answers of the calls.
+#![tactic(auto)]
 
 // Why a call is refused: the rows of the refusal table, 1 to 10.
-#[derive(Drop)]
+#[derive(Clone, Copy)]
 pub enum Refusal {
     ImageLength,
     ScratchLength,
@@ -17,7 +18,7 @@ pub enum Refusal {
 }
 
 // What check counts: P, tables, keys and F.
-#[derive(Drop)]
+#[derive(Clone, Copy)]
 pub struct Counts {
     pub pages: usize,
     pub tables: usize,
@@ -26,21 +27,21 @@ pub struct Counts {
 }
 
 // What check answers.
-#[derive(Drop)]
+#[derive(Clone, Copy)]
 pub enum Checked {
     Sound(Counts),
     Refused(Refusal),
 }
 
 // What get and next answer: the length of the value or key.
-#[derive(Drop)]
+#[derive(Clone, Copy)]
 pub enum Got {
     Found(usize),
     Refused(Refusal),
 }
 
 // What put, remove and create answer.
-#[derive(Drop)]
+#[derive(Clone, Copy)]
 pub enum Wrote {
     Done,
     Refused(Refusal),

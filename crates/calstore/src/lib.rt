@@ -8,7 +8,7 @@ use blockfile::{Checked, Got, Refusal, Wrote};
 
 // The numbers of a result; those that an answer has not are 0.
 #[repr(C)]
-#[derive(Drop)]
+#[derive(Clone, Copy)]
 pub struct Answer {
     pub number: u32,
     pub page: u32,

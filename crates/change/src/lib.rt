@@ -14,7 +14,7 @@ pub mod removing;
 pub mod settle;
 
 // The calls that write.
-#[derive(Drop)]
+#[derive(Clone, Copy)]
 pub enum Request {
     Put,
     Remove,

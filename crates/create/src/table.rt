@@ -15,7 +15,7 @@ use pages::read::get16;
 use pages::write::put_page;
 
 // The pages of its skip list, its span and its head, and its span size.
-#[derive(Drop)]
+#[derive(Clone, Copy)]
 pub struct NewTable {
     pub root: usize,
     pub span: usize,

@@ -8,7 +8,7 @@ use pages::free::{give_page, take_page};
 use pages::read::get32;
 
 // How many old pages are kept, and the first one that is left over, 0 for none.
-#[derive(Drop)]
+#[derive(Clone, Copy)]
 struct Kept {
     count: usize,
     next: usize,

@@ -14,7 +14,7 @@ use links::around::{towers_after, towers_before};
 use stage::change::Change;
 
 // Whether a change was made, and then how many pages are free after it.
-#[derive(Drop)]
+#[derive(Clone, Copy)]
 pub enum Applied {
     Nothing,
     Left(usize),

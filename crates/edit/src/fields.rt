@@ -5,7 +5,7 @@ ghost use Rattle.edit.specs.Fields.{ListRead, LinkedOn, LinksRead};
 use pages::read::{get16, get32};
 
 // A table: the page of its head; its numbers of keys, spans and towers; its span size; the head's max and current height.
-#[derive(Drop)]
+#[derive(Clone, Copy)]
 pub struct SkipList {
     pub head: usize,
     pub size: usize,
@@ -17,7 +17,7 @@ pub struct SkipList {
 }
 
 // A span: the spans before and behind it, its first continuation page, 0 for none, and its number of entries.
-#[derive(Drop)]
+#[derive(Clone, Copy)]
 pub struct Links {
     pub prev: usize,
     pub next: usize,

@@ -12,7 +12,7 @@ use stage::change::Change;
 // A span that is rewritten: its table's skip-list page, its own page, and what these say; how its entries are shared out and
 // the pages wanted; how many more pages are drawn behind these. The buffer has the list of pages in its first `base` words, the
 // span's own first; behind them, for each page of the list in turn, 1016 bytes of a stream.
-#[derive(Drop)]
+#[derive(Clone, Copy)]
 pub struct Plan {
     pub root: usize,
     pub page: usize,

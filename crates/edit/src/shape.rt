@@ -8,7 +8,7 @@ use stage::measure::measure;
 
 // How many entries there are, and how many of them stay; where the streams of those that stay and of those that move end; the
 // height of the new span's tower. Without a split all stay, and there is no tower.
-#[derive(Drop)]
+#[derive(Clone, Copy)]
 pub struct Shape {
     pub entries: usize,
     pub half: usize,
@@ -18,7 +18,7 @@ pub struct Shape {
 }
 
 // The pages wanted: continuation pages of the span, pages of a new span, a tower's page.
-#[derive(Drop)]
+#[derive(Clone, Copy)]
 pub struct Wants {
     pub conts: usize,
     pub span: usize,

@@ -9,7 +9,7 @@ use draw::write::write_chain;
 
 // A span to be written: the index of its first page in the list and its number of pages; its stream in the buffer, which
 // begins at this word of four bytes and ends at this byte; its links, its max keys and its number of entries.
-#[derive(Drop)]
+#[derive(Clone, Copy)]
 pub struct Part {
     pub at: usize,
     pub count: usize,

@@ -9,7 +9,7 @@ use links::write::{link_levels, put_tower};
 use pages::write::put16;
 
 // A new tower: its page and its span's; its height, and its max height, which is the head's; the head's page and current height.
-#[derive(Drop)]
+#[derive(Clone, Copy)]
 pub struct NewTower {
     pub page: usize,
     pub span: usize,

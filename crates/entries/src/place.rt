@@ -5,21 +5,21 @@ ghost use Rattle.entries.specs.Places.{Enough, Moved, gap, Settled, Here, here, 
 use pages::read::{get16, get32};
 
 // A page of a span, and an offset on it from 8 to 1024; at 1024 the next byte is the next page's first.
-#[derive(Drop)]
+#[derive(Clone, Copy)]
 pub struct Place {
     pub page: usize,
     pub offset: usize,
 }
 
 // A byte, and the place after it.
-#[derive(Drop)]
+#[derive(Clone, Copy)]
 pub struct Got {
     pub byte: u8,
     pub after: Place,
 }
 
 // The lengths of an entry's key and value, and the place after them.
-#[derive(Drop)]
+#[derive(Clone, Copy)]
 pub struct Sizes {
     pub key: usize,
     pub value: usize,

@@ -217,11 +217,14 @@ pub low_or_high : (k : ℕ) (ts : List Tower) → Low k ts ⊎ High k ts
 low_or_high k [] = inl (record { last = λ p. refl; next = λ e. refl })
 low_or_high k (t ∷ ts) = go (ltb k t.height) refl (low_or_high k ts)
   where
+    listed : (p n : ℕ) → last_at k p (t ∷ ts) ≡ n → 1 ≤ count n (pages_in ts) → 1 ≤ count (last_at k p (t ∷ ts)) (pages_in (t ∷ ts))
+    listed p n same h = subst (λ (m : ℕ). 1 ≤ count m (pages_in (t ∷ ts))) (sym same) (omega (arith, h, count-more n t.page (pages_in ts)))
+
     go : (b : Bool) → ltb k t.height ≡ b → Low k ts ⊎ High k ts → Low k (t ∷ ts) ⊎ High k (t ∷ ts)
     go true e (inl h) = inr (record { last = λ p. rw (e, h.last t.page) (omega (arith, count-here t.page (pages_in ts))); next = λ m d. rw e })
-    go true e (inr h) = inr (record { last = λ p. rw e (omega (arith, h.last t.page, count-more (last_at k t.page ts) t.page (pages_in ts))); next = λ m d. rw e })
+    go true e (inr h) = inr (record { last = λ p. listed p (last_at k t.page ts) (rw e) (h.last t.page); next = λ m d. rw e })
     go false e (inl h) = inl (record { last = λ p. rw e (h.last p); next = λ m. rw e (h.next m) })
-    go false e (inr h) = inr (record { last = λ p. rw e (omega (arith, h.last p, count-more (last_at k p ts) t.page (pages_in ts))); next = λ m d. rw e (h.next m d) })
+    go false e (inr h) = inr (record { last = λ p. listed p (last_at k p ts) (rw e) (h.last p); next = λ m d. rw e (h.next m d) })
 
 either : (b : Bool) (n : ℕ) → cond b n n ≡ n
 either true n = refl
@@ -332,7 +335,7 @@ module _ (f g : ℕ → ℕ) (x : Seat) (xs : List Seat) (o : Distinct (seated (
   mixed-here k = rw (lt-ltb k (suc k) (omega arith))
 
   levels : (j n : ℕ) → set_nexts (links_to g x.tower.page (seated (x ∷ xs)) j n) (link_seats (mixed f g j) (x ∷ xs)) ≡ link_seats (mixed f g (j + n)) (x ∷ xs)
-  levels j zero = let z : j + 0 ≡ j = omega arith in rw z
+  levels j zero = let z : j + 0 ≡ j = omega arith in ap (λ (k : ℕ). link_seats (mixed f g k) (x ∷ xs)) (sym z)
   levels j (suc n) =
       let z : j + suc n ≡ suc j + n = omega arith in
       let e : set_next (last_at j x.tower.page (seated (x ∷ xs))) j (g j) (link_seats (mixed f g j) (x ∷ xs)) ≡ link_seats (mixed f g (suc j)) (x ∷ xs)

@@ -5,7 +5,7 @@ ghost use Rattle.order.specs.Bytes.{order, ByWords, Least, SameFrom, Alike};
 use pages::read::word64;
 
 // Which of two byte strings comes first.
-#[derive(Drop)]
+#[derive(Clone, Copy)]
 pub enum Order {
     Less,
     Equal,

@@ -4,14 +4,14 @@ ghost use Rattle.order.specs.declared.sort.Sort.TheVariants.{Bytes, Numbers};
 ghost use Rattle.order.specs.Sorts.{table_sort, sign_as, turn, turned, LengthsAre};
 
 // The order of the keys of a table.
-#[derive(Drop)]
+#[derive(Clone, Copy)]
 pub enum Sort {
     Bytes,
     Numbers,
 }
 
 // The least and the greatest length of a key.
-#[derive(Drop)]
+#[derive(Clone, Copy)]
 pub struct Lengths {
     pub least: usize,
     pub most: usize,

@@ -1,6 +1,8 @@
 // Key and value bytes run on at offset 8 of the next continuation page: a reader holds the image and the place in it from where
-// to read on. Each function over a reader is thin, and proved by a walk of its own; a function on the slice and numbers has
+// to read on. Each function over a reader is thin; a function on the slice and numbers has
 // the work. Whoever has an image and a place calls `place_after` or `copy_from`, which need no reader.
+#![tactic(auto)]
+
 ghost use Rattle.std.specs.Prelude.{◌≡◌, ◌≤◌, length};
 ghost use Rattle.entries.specs.Places.{Enough, Moved, Copied};
 ghost use Rattle.reader.specs.Readers.{place_of};

@@ -9,7 +9,7 @@ use pages::write::clear;
 use verify::image::{Verdict, verify};
 
 // Refused with 1, 2 or 3, or accepted with what check counts.
-#[derive(Drop)]
+#[derive(Clone, Copy)]
 pub enum Opened {
     Refused(Refusal),
     Accepted(Counts),

@@ -9,7 +9,7 @@ use pages::write::clear;
 use search::table::{Named, find_table};
 
 // Refused, or the skip-list page of the table.
-#[derive(Drop)]
+#[derive(Clone, Copy)]
 pub enum Entered {
     Refused(Refusal),
     Found(usize),

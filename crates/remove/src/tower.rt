@@ -6,7 +6,7 @@ use links::around::{get_entries, tower_of};
 use pages::read::get16;
 
 // A span's tower: its page and height, 0 for none; for each of its levels the next tower behind it.
-#[derive(Drop)]
+#[derive(Clone, Copy)]
 pub struct OwnTower {
     pub page: usize,
     pub height: usize,

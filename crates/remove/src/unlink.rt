@@ -12,7 +12,7 @@ use links::write::{link_levels, put_counts};
 use pages::write::put32;
 
 // A span that goes, with all that is read before anything is written: its table's skip-list page, its own page, and what these say.
-#[derive(Drop)]
+#[derive(Clone, Copy)]
 pub struct Going {
     pub root: usize,
     pub page: usize,

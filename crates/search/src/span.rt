@@ -10,14 +10,14 @@ use pages::read::get16;
 use reader::place_after;
 
 // Where the bytes sought are and how many, if they are there.
-#[derive(Drop)]
+#[derive(Clone, Copy)]
 pub enum Sought {
     Found(Place, usize),
     Missing,
 }
 
 // Where a search along the entries stopped.
-#[derive(Drop)]
+#[derive(Clone, Copy)]
 pub enum Stop {
     // At the entry with the key; with it, so many entries are left.
     Here(Sizes, usize),
@@ -105,7 +105,7 @@ pub fn key_above(image: &[u8], page: usize, sort: Sort, key: &[u8]) -> Sought
 }
 
 // How far a search goes along the spans of a table: to the last that begins at the key or below it; strictly, below it.
-#[derive(Drop)]
+#[derive(Clone, Copy)]
 pub struct Bound {
     pub sort: Sort,
     pub strict: bool,

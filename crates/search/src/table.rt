@@ -15,14 +15,14 @@ use pages::read::get32;
 pub const METAINDEX: usize = 2;
 
 // A table: its skip-list page, and how its keys sort.
-#[derive(Drop)]
+#[derive(Clone, Copy)]
 pub struct TableRef {
     pub root: usize,
     pub sort: Sort,
 }
 
 // The skip-list page of a table, if there is a table of the name.
-#[derive(Drop)]
+#[derive(Clone, Copy)]
 pub enum Named {
     Root(usize),
     Unknown,

@@ -13,7 +13,7 @@ use search::table::{METAINDEX, Named, TableRef, find_by_towers, find_span, find_
 use std::num::{wrapping_add_u8, wrapping_add_u64};
 
 // How many keys there were, how many were searched for, and for how many of these the searches gave different spans.
-#[derive(Drop)]
+#[derive(Clone, Copy)]
 pub struct Tally {
     pub keys: u64,
     pub searches: u64,

@@ -8,7 +8,7 @@ use heads::claim::{claim, head32};
 use pages::mark;
 
 // Pages that were claimed: refused, or held, with the number of continuation pages.
-#[derive(Drop)]
+#[derive(Clone, Copy)]
 pub enum Claims {
     Refused,
     Held(usize),

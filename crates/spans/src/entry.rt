@@ -20,7 +20,7 @@ use pages::read::get16;
 use reader::place_after;
 
 // The last key met: its place, its length, 0 where there is none, and a number that its rank is not above.
-#[derive(Drop)]
+#[derive(Clone, Copy)]
 pub struct Last {
     pub at: Place,
     pub length: usize,
@@ -28,14 +28,14 @@ pub struct Last {
 }
 
 // Entries that were read: refused, or the place after them, the bytes left from there on, and the last key.
-#[derive(Drop)]
+#[derive(Clone, Copy)]
 pub enum Entered {
     Bad,
     Read(Place, usize, Last),
 }
 
 // An entry that was tried: left, or read, with the offset where it ends and the rank of its key.
-#[derive(Drop)]
+#[derive(Clone, Copy)]
 pub enum Tried {
     Left,
     On(usize, usize),
@@ -43,7 +43,7 @@ pub enum Tried {
 
 // Entries that were passed on a page: their number, the offsets where the last one begins and ends, and the rank of its key. Without
 // one, both offsets are where the first would begin, and the rank is that of the last key met.
-#[derive(Drop)]
+#[derive(Clone, Copy)]
 pub struct Passed {
     pub count: usize,
     pub before: usize,
@@ -52,7 +52,7 @@ pub struct Passed {
 }
 
 // Entries that were read: their number, the place after them, the bytes left from there on, and the last key.
-#[derive(Drop)]
+#[derive(Clone, Copy)]
 pub struct Skimmed {
     pub count: usize,
     pub at: Place,

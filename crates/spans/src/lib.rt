@@ -1,4 +1,6 @@
 // The spans of a table: are they well-formed. Each page is claimed by its head before its entries are read.
+#![tactic(auto)]
+
 pub mod claims;
 pub mod entry;
 pub mod span;
@@ -15,7 +17,7 @@ use entries::place::Place;
 use order::sort::turn_of;
 
 // The answer for the spans of a table: broken, or whole with the numbers of keys and of spans.
-#[derive(Drop)]
+#[derive(Clone, Copy)]
 pub enum Counted {
     Broken,
     Whole(usize, usize),

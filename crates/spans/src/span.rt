@@ -13,14 +13,14 @@ use heads::claim::{head16, head32};
 use order::sort::Sort;
 
 // What all spans of a table have in common: their max keys, and how their keys sort.
-#[derive(Drop)]
+#[derive(Clone, Copy)]
 pub struct Rules {
     pub most: usize,
     pub sort: Sort,
 }
 
 // The answer for a span: wrong, or right with the number of its entries, the next span's page and the last key met.
-#[derive(Drop)]
+#[derive(Clone, Copy)]
 pub enum Spanned {
     Wrong,
     Right(usize, usize, Last),

@@ -10,14 +10,14 @@ use reader::place_after;
 use search::span::{Stop, seek};
 
 // Where a key belongs in a span: so many entries are below it, and the next one has the key (1) or not (0).
-#[derive(Drop)]
+#[derive(Clone, Copy)]
 pub struct Spot {
     pub index: usize,
     pub there: usize,
 }
 
 // At the index, so many entries give way and so many come: 0 or 1.
-#[derive(Drop)]
+#[derive(Clone, Copy)]
 pub struct Change {
     pub index: usize,
     pub drops: usize,
@@ -25,14 +25,14 @@ pub struct Change {
 }
 
 // An index into the new list, and the place of the old entry that comes next.
-#[derive(Drop)]
+#[derive(Clone, Copy)]
 pub struct Cursor {
     pub index: usize,
     pub at: Place,
 }
 
 // An entry of the new list, and the cursor behind it.
-#[derive(Drop)]
+#[derive(Clone, Copy)]
 pub enum Next {
     // The entry that comes.
     New(Cursor),

@@ -8,14 +8,14 @@ use crate::change::{Change, Cursor, Next, next_entry, start};
 use pages::read::get16;
 
 // Where a part of the new list ends in a stream of its own, and the cursor behind it.
-#[derive(Drop)]
+#[derive(Clone, Copy)]
 pub struct Part {
     pub end: usize,
     pub after: Cursor,
 }
 
 // Where the entries that stay end, and those that move to a new span.
-#[derive(Drop)]
+#[derive(Clone, Copy)]
 pub struct Ends {
     pub stay: usize,
     pub moved: usize,

@@ -9,7 +9,7 @@ use search::span::Sought;
 use search::table::{TableRef, find};
 
 // The value under a key, or the smallest key above one.
-#[derive(Drop)]
+#[derive(Clone, Copy)]
 pub enum Question {
     Value,
     Above,

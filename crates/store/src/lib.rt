@@ -124,7 +124,7 @@ pub fn create(image: &mut [u8], scratch: &mut [u8], name: &[u8]) -> Wrote
 }
 
 // The numbers of a refusal: its row in the table, and with 9 the length needed, else 0.
-#[derive(Drop)]
+#[derive(Clone, Copy)]
 pub struct Numbers(pub u32, pub usize);
 
 pub fn numbers_of(why: Refusal) -> Numbers

@@ -1,4 +1,6 @@
 // The towers of a table, after its spans: the head, which stands on the first span, and the towers of the other spans.
+#![tactic(auto)]
+
 ghost use Rattle.std.specs.Prelude.{◌≡◌, ℕ, ◌+◌, ◌*◌, ◌≤◌, List, length};
 ghost use Rattle.blockfile.specs.Layout.{Span};
 ghost use Rattle.pages.specs.Places.{Inside};

@@ -14,7 +14,7 @@ use search::table::{METAINDEX, TableRef};
 use walks::Walked;
 
 // Not well-formed, or well-formed with what check counts.
-#[derive(Drop)]
+#[derive(Clone, Copy)]
 pub enum Verdict {
     Bad,
     Good(Counts),

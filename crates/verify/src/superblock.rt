@@ -14,7 +14,7 @@ use pages::mark::SUPERBLOCK;
 use pages::read::{get16, get32};
 
 // Refused, or the first free-list page, 0 for none.
-#[derive(Drop)]
+#[derive(Clone, Copy)]
 pub enum Started {
     Refused,
     Begun(usize),

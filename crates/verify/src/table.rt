@@ -17,7 +17,7 @@ use towers::verify_towers;
 use walks::Walked;
 
 // The spans and towers of a table: broken, or whole with the numbers of keys, spans and towers.
-#[derive(Drop)]
+#[derive(Clone, Copy)]
 pub enum Columned {
     Broken,
     Whole(usize, usize, usize),

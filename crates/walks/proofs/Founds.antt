@@ -50,8 +50,8 @@ fresh-right scr (n ∷ ns) ms f = fresh-right (claimed scr n) ns ms f.1
 
 -- claims keep the heads
 pub lent-claims : {img scr : List ℕ} (ns : List ℕ) → Fresh scr ns → Lent img scr → Lent img (claims scr ns)
-lent-claims [] f l = l
-lent-claims (n ∷ ns) f l = lent-claims ns f.1 (lent-claimed n f.0.low f.0.high l)
+lent-claims {img = img} {scr = scr} [] f l = l
+lent-claims {img = img} {scr = scr} (n ∷ ns) f l = lent-claims {img = img} {scr = claimed scr n} ns f.1 (lent-claimed n f.0.low f.0.high l)
 
 -- a claim leaves one page fewer unclaimed
 unclaimed-same : (scr : List ℕ) (i p : ℕ) → p ≤ i → unclaimed_to (set scr (16 * i) 0) p ≡ unclaimed_to scr p

@@ -1,0 +1,25 @@
+use Prim.Native.Nat.{◌-◌}
+use native.Mathlib.Omega.{arith}
+use Rattle.draw.proofs.Keeps.{keeping_start, keeping-inside, keeping-next, keeping-end}
+use Rattle.draw.proofs.draw.keep_pages.Goals as goal
+
+pub get32-next-requires : goal.get32-next-requires
+get32-next-requires c = keeping-inside _ _ _ _ _ _ _ _ c.loop-count.invariant c.requires.0 c.if-next-ne0.true
+
+pub loop-count-preserved : goal.loop-count-preserved
+loop-count-preserved c = keeping-next _ _ _ _ _ _ _ _ c.loop-count.invariant c.loop-count-test.true c.if-next-ne0.true _ c.set_number.ensures _ c.get32-next.ensures.is
+
+pub returns-else-next-ne0 : goal.returns-else-next-ne0
+returns-else-next-ne0 c = keeping-end _ _ _ _ _ _ _ _ c.loop-count.invariant (λ l. c.if-next-ne0.false)
+
+pub returns-after-loop-count : goal.returns-after-loop-count
+returns-after-loop-count c = keeping-end _ _ _ _ _ _ _ _ c.loop-count.invariant (λ l. absurd (omega (arith, c.loop-count-test.false)))
+
+pub loop-count-init : goal.loop-count-init
+loop-count-init c = keeping_start _ _ _ _ _
+
+pub shape_of-numbers-else-next-ne0 : goal.shape_of-numbers-else-next-ne0
+shape_of-numbers-else-next-ne0 c = c.loop-count.invariant.size
+
+pub shape_of-numbers-after-loop-count : goal.shape_of-numbers-after-loop-count
+shape_of-numbers-after-loop-count c = c.loop-count.invariant.size

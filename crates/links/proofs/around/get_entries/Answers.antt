@@ -1,0 +1,19 @@
+use Prim.Native.Nat.{◌-◌}
+use native.Mathlib.Omega.{arith}
+use mathlib.Core.Path.{◌≡◌}
+use Rattle.search.proofs.Fills.{fill_none, fill_more}
+use Rattle.links.proofs.around.get_entries.Goals as goal
+
+pub get32-requires : goal.get32-requires
+get32-requires c = record { small = omega arith; low = omega arith; high = omega arith; fits = omega arith }
+
+pub loop-i-preserved : goal.loop-i-preserved
+loop-i-preserved c =
+    let v = c.loop-i.invariant in
+    (omega arith, fill_more v.1 (omega arith) _ c.get32.ensures.is)
+
+pub returns : goal.returns
+returns c = let e : c.loop-i.i ≡ c.args.height = omega arith in rw (← e) c.loop-i.invariant.1
+
+pub loop-i-init : goal.loop-i-init
+loop-i-init c = (omega arith, fill_none _ _)

@@ -1,0 +1,34 @@
+-- `links::around::tower_of` meets its contract: the next tower behind those before a span is its own or names another.
+use native.Mathlib.Omega.{arith}
+use mathlib.Core.Path.{sym, ◌∙◌}
+use mathlib.Core.Logic.{inl, inr}
+use Rattle.links.proofs.Leading.{path-pages}
+use Rattle.links.proofs.Owner.{flat-none, lowest-inside, next-inside, next-none, next-own}
+use Rattle.links.proofs.around.tower_of.Goals as goal
+
+pub overflow_cast-lowest : goal.overflow_cast-lowest
+overflow_cast-lowest c = let p = c.requires in omega (arith, (path-pages p.reading p.place p.is.path).small 0)
+
+pub returns-then-lowest-eq0 : goal.returns-then-lowest-eq0
+returns-then-lowest-eq0 c = record { is = λ root t k a. flat-none a c.if-lowest-eq0.true }
+
+pub get32-next-requires : goal.get32-next-requires
+get32-next-requires c = lowest-inside c.requires.is c.if-lowest-eq0.false
+
+pub returns-then-next-eq0 : goal.returns-then-next-eq0
+returns-then-next-eq0 c = record { is = λ root t k a. next-none a c.if-lowest-eq0.false _ c.get32-next.ensures.is (inl c.if-next-eq0.true) }
+
+pub get32-requires : goal.get32-requires
+get32-requires c = next-inside c.requires.is c.if-lowest-eq0.false _ c.get32-next.ensures.is c.if-next-eq0.false
+
+pub returns-then-get32-page : goal.returns-then-get32-page
+returns-then-get32-page c = record {
+  is = λ root t k a.
+      next-none a c.if-lowest-eq0.false _ c.get32-next.ensures.is (inr (λ e. c.if-get32-page.true (c.get32.ensures.is ∙ e)));
+}
+
+pub returns : goal.returns
+returns c = record {
+  is = λ root t k a.
+      next-own a c.if-lowest-eq0.false _ c.get32-next.ensures.is c.if-next-eq0.false (sym c.get32.ensures.is ∙ c.if-get32-page.false);
+}

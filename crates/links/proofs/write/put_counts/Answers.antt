@@ -1,0 +1,6 @@
+-- `links::write::put_counts` meets its contract: three writes side by side are one.
+use Rattle.links.proofs.Written.{three-counts}
+use Rattle.links.proofs.write.put_counts.Goals as goal
+
+pub returns : goal.returns
+returns c = cc (three-counts c.args.image.now c.args.root c.args.size c.args.spans c.args.levels)

@@ -1,0 +1,10 @@
+-- `pages::read::byte` meets its contract: an element of a slice of bytes is below 256.
+use native.Mathlib.Omega.{arith}
+use mathlib.Core.Path.{refl}
+use Rattle.pages.proofs.read.byte.Goals as goal
+
+pub overflow_cast-result : goal.overflow_cast-result
+overflow_cast-result c = omega (arith, c.shared_slice_known-1.given c.args.at)
+
+pub returns : goal.returns
+returns c = record { is = refl; below = omega (arith, c.shared_slice_known-1.given c.args.at) }

@@ -1,0 +1,54 @@
+use Prim.Native.Nat.{◌-◌}
+use native.Mathlib.Omega.{arith}
+use mathlib.Core.Path.{refl, subst}
+use Rattle.spans.specs.Entries.{Entering}
+use Rattle.spans.proofs.Charts.{spread-entered}
+use Rattle.spans.proofs.Runs.{walking_start, walking-ready, walking-end, walking-no, walking-more}
+use Rattle.spans.proofs.entry.verify_entries.Goals as goal
+
+pub loop-i-init : goal.loop-i-init
+loop-i-init c = let p = c.requires in (walking_start _ p.1, omega arith, p.2, omega arith)
+
+pub skim-s-requires : goal.skim-s-requires
+skim-s-requires c = walking-ready c.loop-i.invariant.0
+
+pub returns-then-size-i : goal.returns-then-size-i
+returns-then-size-i c =
+    let v = c.loop-i.invariant in
+    walking-end (walking-more v.0 c.skim-s.ensures.read refl refl) (omega (arith, c.skim-s.ensures.few, c.if-size-i.true, v.1))
+
+pub verify_entry-requires : goal.verify_entry-requires
+verify_entry-requires c =
+    let v = c.loop-i.invariant in
+    (c.requires.0, walking-ready (walking-more v.0 c.skim-s.ensures.read refl refl), spread-entered v.2 (walking-ready v.0).key c.skim-s.ensures.read)
+
+pub returns-in_default : goal.returns-in_default
+returns-in_default c =
+    let v = c.loop-i.invariant in
+    walking-no (walking-more v.0 c.skim-s.ensures.read refl refl) c.verify_entry.ensures c.in_default.is (omega (arith, c.if-size-i.false, v.1))
+
+pub loop-i-preserved : goal.loop-i-preserved
+loop-i-preserved c =
+    let v = c.loop-i.invariant in
+    let w = walking-more v.0 c.skim-s.ensures.read refl refl in (
+      walking-more w c.verify_entry.ensures c.in-Read.is (omega arith),
+      omega (arith, c.if-size-i.false, v.1),
+      spread-entered (spread-entered v.2 (walking-ready v.0).key c.skim-s.ensures.read) (walking-ready w).key
+          (subst (Entering _ _ _ _ 1) c.in-Read.is c.verify_entry.ensures),
+      c.run_after-run.ensures,
+    )
+
+pub returns : goal.returns
+returns c = let v = c.loop-i.invariant in walking-end v.0 (omega (arith, c.loop-i-test.false, v.1))
+
+pub overflow_add-i : goal.overflow_add-i
+overflow_add-i c = omega (arith, c.if-size-i.false, c.ranges)
+
+pub overflow_add-i-in-loop-i : goal.overflow_add-i-in-loop-i
+overflow_add-i-in-loop-i c = omega (arith, c.if-size-i.false, c.ranges, c.loop-i.invariant.1)
+
+pub overflow_sub-size-in-loop-i : goal.overflow_sub-size-in-loop-i
+overflow_sub-size-in-loop-i c = omega (arith, c.if-size-i.false)
+
+pub loop-i-smaller : goal.loop-i-smaller
+loop-i-smaller c = omega (arith, c.if-size-i.false)

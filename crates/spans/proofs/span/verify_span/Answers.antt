@@ -1,0 +1,15 @@
+-- `spans::span::verify_span` meets its contract.
+use Rattle.spans.proofs.Spans.{verify-ready, verify-lent, verify-no, verify-done}
+use Rattle.spans.proofs.span.verify_span.Goals as goal
+
+pub returns-in_default : goal.returns-in_default
+returns-in_default c = verify-no c.requires.0 (c.claim_span.ensures _ c.requires.0).found c.in_default.is
+
+pub read_span-requires : goal.read_span-requires
+read_span-requires c =
+    let p = c.requires in
+    let held = c.in-Held.is in
+    (verify-lent p.0 (c.claim_span.ensures _ c.requires.0).found held, verify-ready p.0 (c.claim_span.ensures _ c.requires.0).found held p.2, (c.claim_span.ensures _ c.requires.0).charted _ held)
+
+pub returns : goal.returns
+returns c = verify-done c.requires.0 (c.claim_span.ensures _ c.requires.0).found c.in-Held.is c.read_span.ensures

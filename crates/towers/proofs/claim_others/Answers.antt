@@ -1,0 +1,110 @@
+use Prim.Native.Nat.{ℕ}
+use mathlib.Core.List.{List}
+use mathlib.Core.Path.{◌≡◌, refl, sym, ◌∙◌}
+use native.Mathlib.Omega.{arith}
+use borrow.Author.Rules.{rules}
+use lib.ListN.{length}
+use Rattle.blockfile.specs.Bytes.{be16, be32}
+use Rattle.pages.specs.Places.{Inside}
+use Rattle.heads.proofs.Claims.{in_head, head32-read}
+use Rattle.walks.proofs.Founds.{unclaimed-most}
+use Rattle.towers.specs.Climb.{span_under}
+use Rattle.towers.proofs.Climbs.{climbing-start, climbing-open, climbing-end, climbing-no, Turn, climbing-turn, climbing-next}
+use Rattle.towers.proofs.claim_others.Goals as goal
+
+-- the lowest level is read as on the first page of an image
+in-levels : (levels : List ℕ) → length levels ≡ 1024 → Inside levels 1 16 4
+in-levels levels e = record { small = omega arith; low = omega arith; high = omega arith; fits = omega arith }
+
+pub follow-requires : goal.follow-requires
+follow-requires c = search rules
+
+pub loop-page-init : goal.loop-page-init
+unfolding be32 be16
+loop-page-init c =
+    climbing-start _ _ _ _ _ _ _ c.requires.0 c.requires.2 refl refl c.follow.ensures _ c.get32-page.ensures.is
+
+pub place_tower-requires : goal.place_tower-requires
+place_tower-requires c = let inv = c.loop-page.invariant in (omega arith, omega arith, record { image = _; lent = inv.lent; linked = inv.linked })
+
+pub returns-in_default : goal.returns-in_default
+returns-in_default c =
+    let inv = c.loop-page.invariant in
+    climbing-no _ _ _ _ _ _ _ _ _ _ inv c.loop-page-test.true _ _ (c.place_tower.ensures _ inv.lent inv.linked) c.in_default.is
+
+-- a turn that goes on
+turn : (c : tie.After-known-told invariant-loop-page decreases-loop-page)
+    → let a = c.args in
+    let l = c.loop-page in
+    Turn a.image.now l.scratch-1 a.top l.page c.in-Done.height c.place_tower.new.scratch
+turn c =
+    let inv = c.loop-page.invariant in
+    climbing-turn _ _ _ _ _ _ _ _ _ _ inv c.loop-page-test.true _ _ (c.place_tower.ensures _ inv.lent inv.linked) _ c.in-Done.is
+
+pub follow-requires-in-loop-page : goal.follow-requires-in-loop-page
+follow-requires-in-loop-page c =
+    let t = turn c in
+    (record { small = omega arith; low = t.low; high = t.high; fits = omega arith }, omega arith)
+
+pub head32-span-requires : goal.head32-span-requires
+head32-span-requires c = let t = turn c in in_head t.lent t.low t.high (omega arith)
+
+-- the span that the tower names
+span-is : (c : tie.After-head32 invariant-loop-page decreases-loop-page)
+    → let a = c.args in
+    c.head32-span.result ≡ span_under a.image.now c.loop-page.page
+span-is c =
+    let t = turn c in
+    (head32-read t.lent (in_head t.lent t.low t.high (omega arith)) (omega arith) c.head32-span.ensures).is
+
+pub head32-next-requires : goal.head32-next-requires
+head32-next-requires c =
+    let t = turn c in
+    rw (span-is c) (in_head t.lent t.span_low t.span_high (omega arith))
+
+pub overflow_add-count : goal.overflow_add-count
+overflow_add-count c = omega (arith, (turn c).falls, unclaimed-most c.args.scratch.now, c.requires.0.room.whole, c.requires.0.room.most)
+
+pub head32-page-requires : goal.head32-page-requires
+head32-page-requires c = let t = turn c in in_head t.lent t.low t.high (omega arith)
+
+pub loop-page-preserved : goal.loop-page-preserved
+loop-page-preserved c =
+    let inv = c.loop-page.invariant in
+    let t = turn c in
+    climbing-next _ _ _ _ _ _ _ _ _ _ inv c.loop-page-test.true _ _ (c.place_tower.ensures _ inv.lent inv.linked) _ c.in-Done.is
+    _ c.follow-in-loop-page.ensures _ _ (span-is c) c.head32-next.ensures.is
+    _ (head32-read t.lent (in_head t.lent t.low t.high (omega arith)) (omega arith) c.head32-page.ensures).is
+
+pub returns-then-not-all_are : goal.returns-then-not-all_are
+returns-then-not-all_are c = climbing-open _ _ _ _ _ _ _ _ _ _ c.loop-page.invariant c.loop-page-test.false _ c.all_are.ensures c.if-not-all_are.true
+
+pub returns : goal.returns
+returns c = climbing-end _ _ _ _ _ _ _ _ _ _ c.loop-page.invariant c.loop-page-test.false _ c.all_are.ensures c.if-not-all_are.false
+
+pub slice_bounds-get32-end : goal.slice_bounds-get32-end
+slice_bounds-get32-end c = sym c.follow.ensures.long
+
+pub get32-page-requires : goal.get32-page-requires
+get32-page-requires c = in-levels _ c.follow.ensures.long
+
+pub slice_bounds-place_tower-end : goal.slice_bounds-place_tower-end
+slice_bounds-place_tower-end c = sym c.loop-page.invariant.wide
+
+pub shape_of-scratch-in_default : goal.shape_of-scratch-in_default
+shape_of-scratch-in_default c = c.place_tower.auto.scratch ∙ c.loop-page.invariant.long
+
+pub slice_bounds-follow-end-in-loop-page : goal.slice_bounds-follow-end-in-loop-page
+slice_bounds-follow-end-in-loop-page c = sym c.loop-page.invariant.wide
+
+pub loop-page-smaller : goal.loop-page-smaller
+loop-page-smaller c = omega (arith, (turn c).falls)
+
+pub slice_bounds-all_are-end : goal.slice_bounds-all_are-end
+slice_bounds-all_are-end c = sym c.loop-page.invariant.wide
+
+pub shape_of-scratch-then-not-all_are : goal.shape_of-scratch-then-not-all_are
+shape_of-scratch-then-not-all_are c = c.loop-page.invariant.long
+
+pub shape_of-scratch : goal.shape_of-scratch
+shape_of-scratch c = c.loop-page.invariant.long
