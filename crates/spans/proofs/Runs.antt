@@ -21,7 +21,7 @@ use Rattle.order.specs.declared.bytes.Order.TheVariants.{Less}
 use Rattle.order.specs.declared.sort.Sort.{Sort}
 use Rattle.order.specs.declared.sort.Sort.TheVariants.{Bytes, Numbers}
 use Rattle.order.specs.declared.sort.Lengths.{Lengths}
-use Rattle.order.specs.Sorts.{rule_as, rank, turned, LengthsAre}
+use Rattle.order.specs.Sorts.{rule_as, turned, LengthsAre}
 use Rattle.order.proofs.Orders.{less-below, below_less}
 use Rattle.order.proofs.Sorts.{some_below, below-some}
 use Rattle.order.proofs.Numbers.{numbers-turned, rank_below}

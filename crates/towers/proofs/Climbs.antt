@@ -16,7 +16,8 @@ use Rattle.blockfile.specs.Fields.{LinkedTower, IsTower}
 use Rattle.blockfile.specs.WellFormed.{Piece, tower, Bears, next_at, link_towers}
 use Rattle.laws.proofs.Chains.{entry-at, at-entries}
 use Rattle.heads.specs.Claims.{Lent, claimable, claimed, Claimed, InHead, head32}
-use Rattle.heads.proofs.Claims.{lent-claimed, in_head}
+use Rattle.heads.proofs.Claims.{lent-claimed, in_head, head32-read}
+use Rattle.pages.specs.Places.{Number}
 use Rattle.pages.proofs.Begins.{begins-take, take_begins}
 use Rattle.walks.specs.declared.Walked.{Walked}
 use Rattle.walks.specs.declared.Walked.TheVariants.{Refused, Done}
@@ -62,6 +63,11 @@ pub found-in-head : {img scr : List ℕ} {lo hi n m : ℕ} {out : List ℕ} → 
 found-in-head f l fits =
     let o = found-open _ _ _ _ _ _ _ f in
     in_head (found-lent _ _ _ _ _ _ _ f l) o.low (omega (arith, o.high, l.room.size, l.room.whole)) fits
+
+-- the span that it names, as the code reads it
+pub found-span : {img scr : List ℕ} {lo hi n m : ℕ} {out : List ℕ} → TowerFound img scr lo hi n m out → Lent img scr
+    → {most v : ℕ} → Number (head32 out n 12) most v → v ≡ span_under img n
+found-span f l x = (head32-read (found-lent _ _ _ _ _ _ _ f l) (found-in-head f l (omega arith)) (omega arith) x).is
 
 -- ---- A tower on its span
 
@@ -303,6 +309,13 @@ pub record Turn (img scr : List ℕ) (top n k : ℕ) (out : List ℕ) : Type 0 w
   pub span_high : 1024 * span_under img n ≤ length img
   pub tall : k ≤ top
   pub falls : unclaimed scr ≡ suc (unclaimed out)
+
+-- the tower's fields are in its head, and the span that it names is read there
+pub turn-in-head : {img scr : List ℕ} {top n k : ℕ} {out : List ℕ} → Turn img scr top n k out → {o w : ℕ} → o + w ≤ 16 + 4 * (o / 16) → InHead out n o w
+turn-in-head t fits = in_head t.lent t.low t.high fits
+
+pub turn-span : {img scr : List ℕ} {top n k : ℕ} {out : List ℕ} → Turn img scr top n k out → {most v : ℕ} → Number (head32 out n 12) most v → v ≡ span_under img n
+turn-span t x = (head32-read t.lent (turn-in-head t (omega arith)) (omega arith) x).is
 
 module _ (img scr₀ : List ℕ) (head top start : ℕ) (scr levels : List ℕ) (p count n : ℕ) (v : Climbing img scr₀ head top start scr levels p count n) where
   abbrev ClimbIs : Walked → List ℕ → Type 0

@@ -1,10 +1,9 @@
-use Prim.Native.Nat.{◌≤◌}
-use mathlib.Core.Logic.{⊎_elim}
-use mathlib.Core.Path.{◌≡◌, ◌∙◌}
+use mathlib.Core.Path.{◌∙◌}
 use native.Mathlib.Omega.{arith}
 use Rattle.walks.proofs.Founds.{unclaimed-most}
 use Rattle.spans.proofs.Tables.{counting-start, counting-wrong, counting-empty, counting-fell, counting-end, counting-next}
 use Rattle.spans.proofs.walk_spans.Goals as goal
+use Rattle.spans.proofs.walk_spans.Goals.{then-n-eq0+else-spans-ne0, else-n-eq0}
 
 pub loop-n-init : goal.loop-n-init
 loop-n-init c = let p = c.requires in (counting-start _ _ _ _ _ p.3 p.4 p.0, omega arith)
@@ -20,10 +19,6 @@ returns-in_default c = counting-wrong c.loop-n.invariant.0 c.verify_span.ensures
 pub returns-then-spans-ne0 : goal.returns-then-spans-ne0
 returns-then-spans-ne0 c = counting-empty c.loop-n.invariant.0 c.verify_span.ensures c.in-Right.is c.if-n-eq0.true (omega (arith, c.if-spans-ne0.true))
 
--- a span that is not the table's first is not empty
-ok : (c : tie.Joined1 invariant-loop-n decreases-loop-n) → 1 ≤ c.loop-n.spans → c.in-Right.n ≡ 0 → ⊥
-ok c m z = ⊎_elim (λ p. omega (arith, m, p.1.left)) (λ p. p.left z) c.if-n-eq0.branch
-
 pub overflow_add-keys : goal.overflow_add-keys
 overflow_add-keys c =
     let l = c.loop-n.invariant.0 in
@@ -38,28 +33,28 @@ overflow_add-spans c =
     omega (arith, l.few, unclaimed-most c.args.scratch.now, room.whole, room.most)
 
 pub returns-then-next-eq0 : goal.returns-then-next-eq0
-returns-then-next-eq0 c = counting-end c.loop-n.invariant.0 c.verify_span.ensures c.in-Right.is (ok c) c.if-next-eq0.true
+returns-then-next-eq0 c = counting-end c.loop-n.invariant.0 c.verify_span.ensures c.in-Right.is (λ m z. elim c.if-n-eq0.branch [ then-n-eq0+else-spans-ne0 w ↦ omega (arith, m, w.if-spans-ne0.false) | else-n-eq0 w ↦ w.if-n-eq0.false z ]) c.if-next-eq0.true
 
 pub loop-n-smaller : goal.loop-n-smaller
 loop-n-smaller c = (counting-fell c.loop-n.invariant.0 c.verify_span.ensures c.in-Right.is (omega arith)).less
 
 pub loop-n-preserved : goal.loop-n-preserved
-loop-n-preserved c = (counting-next c.loop-n.invariant.0 c.verify_span.ensures c.in-Right.is (ok c) c.if-next-eq0.false (omega arith), (c.verify_span.auto.scratch.1.0 ∙ c.loop-n.invariant.1))
+loop-n-preserved c = (counting-next c.loop-n.invariant.0 c.verify_span.ensures c.in-Right.is (λ m z. elim c.if-n-eq0.branch [ then-n-eq0+else-spans-ne0 w ↦ omega (arith, m, w.if-spans-ne0.false) | else-n-eq0 w ↦ w.if-n-eq0.false z ]) c.if-next-eq0.false (omega arith), (c.verify_span.auto.chart ∙ c.loop-n.invariant.1))
 
 pub shape_of-scratch-in_default : goal.shape_of-scratch-in_default
-shape_of-scratch-in_default c = (c.verify_span.auto.scratch.0 ∙ c.loop-n.invariant.0.kept)
+shape_of-scratch-in_default c = (c.verify_span.auto.scratch ∙ c.loop-n.invariant.0.kept)
 
 pub shape_of-chart-in_default : goal.shape_of-chart-in_default
-shape_of-chart-in_default c = (c.verify_span.auto.scratch.1.0 ∙ c.loop-n.invariant.1)
+shape_of-chart-in_default c = (c.verify_span.auto.chart ∙ c.loop-n.invariant.1)
 
 pub shape_of-scratch-then-spans-ne0 : goal.shape_of-scratch-then-spans-ne0
-shape_of-scratch-then-spans-ne0 c = (c.verify_span.auto.scratch.0 ∙ c.loop-n.invariant.0.kept)
+shape_of-scratch-then-spans-ne0 c = (c.verify_span.auto.scratch ∙ c.loop-n.invariant.0.kept)
 
 pub shape_of-chart-then-spans-ne0 : goal.shape_of-chart-then-spans-ne0
-shape_of-chart-then-spans-ne0 c = (c.verify_span.auto.scratch.1.0 ∙ c.loop-n.invariant.1)
+shape_of-chart-then-spans-ne0 c = (c.verify_span.auto.chart ∙ c.loop-n.invariant.1)
 
 pub shape_of-scratch-then-next-eq0 : goal.shape_of-scratch-then-next-eq0
-shape_of-scratch-then-next-eq0 c = (c.verify_span.auto.scratch.0 ∙ c.loop-n.invariant.0.kept)
+shape_of-scratch-then-next-eq0 c = (c.verify_span.auto.scratch ∙ c.loop-n.invariant.0.kept)
 
 pub shape_of-chart-then-next-eq0 : goal.shape_of-chart-then-next-eq0
-shape_of-chart-then-next-eq0 c = (c.verify_span.auto.scratch.1.0 ∙ c.loop-n.invariant.1)
+shape_of-chart-then-next-eq0 c = (c.verify_span.auto.chart ∙ c.loop-n.invariant.1)

@@ -10,7 +10,7 @@ returns-then-get32-v c = decides-false (λ a. c.if-get32-v.true (sym (lowest-is 
 
 pub returns : goal.returns
 returns c =
-    all-repeat c.args.levels.now (λ i. omega (arith, c.shared_slice_known-1.given i)) _ _ _ (lowest-is _ _ c.get32.ensures.is ∙ c.if-get32-v.false) c.repeats.ensures
+    all-repeat c.args.levels.now (λ i. omega (arith, c.type_inv.levels i)) _ _ _ (lowest-is _ _ c.get32.ensures.is ∙ c.if-get32-v.false) c.repeats.ensures
 
 pub returns-then-n-eq0 : goal.returns-then-n-eq0
 returns-then-n-eq0 c = decides-true (λ i l. absurd (omega arith))

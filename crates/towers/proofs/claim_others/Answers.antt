@@ -8,8 +8,7 @@ use Rattle.blockfile.specs.Bytes.{be16, be32}
 use Rattle.pages.specs.Places.{Inside}
 use Rattle.heads.proofs.Claims.{in_head, head32-read}
 use Rattle.walks.proofs.Founds.{unclaimed-most}
-use Rattle.towers.specs.Climb.{span_under}
-use Rattle.towers.proofs.Climbs.{climbing-start, climbing-open, climbing-end, climbing-no, Turn, climbing-turn, climbing-next}
+use Rattle.towers.proofs.Climbs.{climbing-start, climbing-open, climbing-end, climbing-no, climbing-turn, turn-in-head, turn-span, climbing-next}
 use Rattle.towers.proofs.claim_others.Goals as goal
 
 -- the lowest level is read as on the first page of an image
@@ -32,49 +31,43 @@ returns-in_default c =
     let inv = c.loop-page.invariant in
     climbing-no _ _ _ _ _ _ _ _ _ _ inv c.loop-page-test.true _ _ (c.place_tower.ensures _ inv.lent inv.linked) c.in_default.is
 
--- a turn that goes on
-turn : (c : tie.After-known-told invariant-loop-page decreases-loop-page)
-    → let a = c.args in
-    let l = c.loop-page in
-    Turn a.image.now l.scratch-1 a.top l.page c.in-Done.height c.place_tower.new.scratch
-turn c =
-    let inv = c.loop-page.invariant in
-    climbing-turn _ _ _ _ _ _ _ _ _ _ inv c.loop-page-test.true _ _ (c.place_tower.ensures _ inv.lent inv.linked) _ c.in-Done.is
-
 pub follow-requires-in-loop-page : goal.follow-requires-in-loop-page
 follow-requires-in-loop-page c =
-    let t = turn c in
+    let inv = c.loop-page.invariant in
+    let t = climbing-turn _ _ _ _ _ _ _ _ _ _ inv c.loop-page-test.true _ _ (c.place_tower.ensures _ inv.lent inv.linked) _ c.in-Done.is in
     (record { small = omega arith; low = t.low; high = t.high; fits = omega arith }, omega arith)
 
 pub head32-span-requires : goal.head32-span-requires
-head32-span-requires c = let t = turn c in in_head t.lent t.low t.high (omega arith)
-
--- the span that the tower names
-span-is : (c : tie.After-head32 invariant-loop-page decreases-loop-page)
-    → let a = c.args in
-    c.head32-span.result ≡ span_under a.image.now c.loop-page.page
-span-is c =
-    let t = turn c in
-    (head32-read t.lent (in_head t.lent t.low t.high (omega arith)) (omega arith) c.head32-span.ensures).is
+head32-span-requires c =
+    let inv = c.loop-page.invariant in
+    let t = climbing-turn _ _ _ _ _ _ _ _ _ _ inv c.loop-page-test.true _ _ (c.place_tower.ensures _ inv.lent inv.linked) _ c.in-Done.is in
+    turn-in-head t (omega arith)
 
 pub head32-next-requires : goal.head32-next-requires
 head32-next-requires c =
-    let t = turn c in
-    rw (span-is c) (in_head t.lent t.span_low t.span_high (omega arith))
+    let inv = c.loop-page.invariant in
+    let t = climbing-turn _ _ _ _ _ _ _ _ _ _ inv c.loop-page-test.true _ _ (c.place_tower.ensures _ inv.lent inv.linked) _ c.in-Done.is in
+    rw (turn-span t c.head32-span.ensures) (in_head t.lent t.span_low t.span_high (omega arith))
 
 pub overflow_add-count : goal.overflow_add-count
-overflow_add-count c = omega (arith, (turn c).falls, unclaimed-most c.args.scratch.now, c.requires.0.room.whole, c.requires.0.room.most)
+overflow_add-count c =
+    let inv = c.loop-page.invariant in
+    let t = climbing-turn _ _ _ _ _ _ _ _ _ _ inv c.loop-page-test.true _ _ (c.place_tower.ensures _ inv.lent inv.linked) _ c.in-Done.is in
+    omega (arith, t.falls, unclaimed-most c.args.scratch.now, c.requires.0.room.whole, c.requires.0.room.most)
 
 pub head32-page-requires : goal.head32-page-requires
-head32-page-requires c = let t = turn c in in_head t.lent t.low t.high (omega arith)
+head32-page-requires c =
+    let inv = c.loop-page.invariant in
+    let t = climbing-turn _ _ _ _ _ _ _ _ _ _ inv c.loop-page-test.true _ _ (c.place_tower.ensures _ inv.lent inv.linked) _ c.in-Done.is in
+    turn-in-head t (omega arith)
 
 pub loop-page-preserved : goal.loop-page-preserved
 loop-page-preserved c =
     let inv = c.loop-page.invariant in
-    let t = turn c in
+    let t = climbing-turn _ _ _ _ _ _ _ _ _ _ inv c.loop-page-test.true _ _ (c.place_tower.ensures _ inv.lent inv.linked) _ c.in-Done.is in
     climbing-next _ _ _ _ _ _ _ _ _ _ inv c.loop-page-test.true _ _ (c.place_tower.ensures _ inv.lent inv.linked) _ c.in-Done.is
-    _ c.follow-in-loop-page.ensures _ _ (span-is c) c.head32-next.ensures.is
-    _ (head32-read t.lent (in_head t.lent t.low t.high (omega arith)) (omega arith) c.head32-page.ensures).is
+    _ c.follow-in-loop-page.ensures _ _ (turn-span t c.head32-span.ensures) c.head32-next.ensures.is
+    _ (head32-read t.lent (turn-in-head t (omega arith)) (omega arith) c.head32-page.ensures).is
 
 pub returns-then-not-all_are : goal.returns-then-not-all_are
 returns-then-not-all_are c = climbing-open _ _ _ _ _ _ _ _ _ _ c.loop-page.invariant c.loop-page-test.false _ c.all_are.ensures c.if-not-all_are.true
@@ -98,7 +91,10 @@ pub slice_bounds-follow-end-in-loop-page : goal.slice_bounds-follow-end-in-loop-
 slice_bounds-follow-end-in-loop-page c = sym c.loop-page.invariant.wide
 
 pub loop-page-smaller : goal.loop-page-smaller
-loop-page-smaller c = omega (arith, (turn c).falls)
+loop-page-smaller c =
+    let inv = c.loop-page.invariant in
+    let t = climbing-turn _ _ _ _ _ _ _ _ _ _ inv c.loop-page-test.true _ _ (c.place_tower.ensures _ inv.lent inv.linked) _ c.in-Done.is in
+    omega (arith, t.falls)
 
 pub slice_bounds-all_are-end : goal.slice_bounds-all_are-end
 slice_bounds-all_are-end c = sym c.loop-page.invariant.wide

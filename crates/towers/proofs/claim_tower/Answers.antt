@@ -1,6 +1,5 @@
 -- `claim_tower` meets its contract, for any image whose heads these are: each return cites the law for the tests that led there.
 use native.Mathlib.Omega.{arith}
-use borrow.Author.Tests.{not-false}
 use Rattle.walks.proofs.Pieces.{claim-in-head, claim-head16}
 use Rattle.towers.proofs.Climbs.{tower-no, tower-not, tower-done}
 use Rattle.towers.proofs.claim_tower.Goals as goal
@@ -21,7 +20,7 @@ head16-requires c =
 pub returns-then-not-is_tall : goal.returns-then-not-is_tall
 returns-then-not-is_tall c img lent =
     let claim = c.claim.ensures img lent in
-    let can = not-false _ c.if-not-claim.false in
+    let can = c.if-not-claim.false in
     tower-not _ _ _ _ _ _ _ claim can _ _
     (claim-head16 claim can lent (omega arith) (omega arith) c.head16-height.ensures).is
     (claim-head16 claim can lent (omega arith) (omega arith) c.head16.ensures).is
@@ -30,7 +29,7 @@ returns-then-not-is_tall c img lent =
 pub returns : goal.returns
 returns c img lent =
     let claim = c.claim.ensures img lent in
-    let can = not-false _ c.if-not-claim.false in
+    let can = c.if-not-claim.false in
     tower-done _ _ _ _ _ _ _ claim can _ _
     (claim-head16 claim can lent (omega arith) (omega arith) c.head16-height.ensures).is
     (claim-head16 claim can lent (omega arith) (omega arith) c.head16.ensures).is

@@ -21,7 +21,7 @@ pub loop-span-preserved : goal.loop-span-preserved
 loop-span-preserved c img lent k = reaching-next lent _ _ _ (c.loop-span.invariant img lent k) c.loop-span-test.true c.if-span-target.false _ c.head32-span.ensures.is
 
 pub loop-span-init : goal.loop-span-init
-loop-span-init c = (λ c img lent k. reaching-start _ _ _ k) c
+loop-span-init c img lent k = reaching-start _ _ _ k
 
 pub returns : goal.returns
-returns c = (λ c img lent k. reaching-end lent _ _ _ (c.loop-span.invariant img lent k) c.loop-span-test.false) c
+returns c img lent k = reaching-end lent _ _ _ (c.loop-span.invariant img lent k) c.loop-span-test.false

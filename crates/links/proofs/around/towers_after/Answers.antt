@@ -23,7 +23,7 @@ loop-i-init c =
 pub get32-requires-in-loop-i : goal.get32-requires-in-loop-i
 get32-requires-in-loop-i c =
     let p = c.requires.0 in
-    level-inside p.reading p.place p _ (omega (arith, c.loop-i.invariant)) (omega (arith, (head-height c.requires.0.reading _ _ c.get32.ensures.is c.get16-height.ensures.is), c.loop-i-test.true))
+    level-inside p.reading p.place p.before _ (omega (arith, c.loop-i.invariant)) (omega (arith, (head-height c.requires.0.reading _ _ c.get32.ensures.is c.get16-height.ensures.is), c.loop-i-test.true))
 
 pub loop-i-preserved : goal.loop-i-preserved
 loop-i-preserved c =

@@ -1,4 +1,4 @@
-use Prim.Native.Nat.{◌-◌, ◌/◌}
+use Prim.Native.Nat.{◌/◌}
 use native.Mathlib.Omega.{arith}
 use Rattle.spans.proofs.Charts.{paged-few, paged-start, paged-here, paged-next, paged-end}
 use Rattle.spans.proofs.entry.nth_page.Goals as goal

@@ -1,4 +1,3 @@
-use Prim.Native.Nat.{◌-◌}
 use native.Mathlib.Omega.{arith}
 use Rattle.spans.proofs.Runs.{skimming-start, skimming-enough, skimming-more}
 use Rattle.spans.proofs.entry.skim.Goals as goal
