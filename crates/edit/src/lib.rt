@@ -1,4 +1,6 @@
 // Changes of a table on an accepted image.
+#![tactic(auto)]
+
 pub mod apply;
 pub mod counts;
 pub mod fields;

@@ -1,4 +1,6 @@
 // Is an image well-formed: one module for each kind of thing.
+#![tactic(auto)]
+
 pub mod free;
 pub mod image;
 pub mod names;

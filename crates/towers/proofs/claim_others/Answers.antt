@@ -15,9 +15,6 @@ use Rattle.towers.proofs.claim_others.Goals as goal
 in-levels : (levels : List ℕ) → length levels ≡ 1024 → Inside levels 1 16 4
 in-levels levels e = record { small = omega arith; low = omega arith; high = omega arith; fits = omega arith }
 
-pub follow-requires : goal.follow-requires
-follow-requires c = search rules
-
 pub loop-page-init : goal.loop-page-init
 unfolding be32 be16
 loop-page-init c =

@@ -5,9 +5,6 @@ use Rattle.walks.proofs.Founds.{decides-false}
 use Rattle.towers.specs.Climb.{Tall}
 use Rattle.towers.proofs.is_tall.Goals as goal
 
-pub returns-then-height-high : goal.returns-then-height-high
-returns-then-height-high c = search rules
-
 pub returns-else-max-ge1 : goal.returns-else-max-ge1
 returns-else-max-ge1 c =
     let a = c.args in

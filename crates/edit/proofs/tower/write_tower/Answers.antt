@@ -1,0 +1,20 @@
+use Rattle.edit.proofs.Risings.{linkable-in, head-rises, head-stays}
+use Rattle.edit.proofs.tower.write_tower.Reads as reads
+use Rattle.edit.proofs.tower.write_tower.Lts as lts
+use Rattle.edit.proofs.tower.link_tower.Reads as link-tower-reads
+use Rattle.links.proofs.write.put_tower.Reads as put-tower-reads
+use Rattle.pages.proofs.write.put16.Reads as put16-reads
+use Rattle.edit.proofs.tower.write_tower.Goals as goal
+
+pub link_tower-requires : goal.link_tower-requires
+link_tower-requires c = linkable-in _ c.put_tower.auto.image c.requires.links
+
+pub returns-then-new : goal.returns-then-new
+returns-then-new c =
+    let s = c.args in
+    head-rises s.new s.before.now s.after.now s.image.now _ _ c.put_tower.ensures c.link_tower.ensures c.if-new.true _ c.put16.ensures
+
+pub returns-else-new : goal.returns-else-new
+returns-else-new c =
+    let s = c.args in
+    head-stays s.new s.before.now s.after.now s.image.now _ _ c.put_tower.ensures c.link_tower.ensures c.if-new.false

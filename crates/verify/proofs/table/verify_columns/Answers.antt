@@ -1,0 +1,26 @@
+-- `verify_columns` meets its contract: the spans, then the towers.
+use native.Mathlib.Omega.{arith}
+use borrow.Author.Rules.{rules}
+use Rattle.verify.proofs.Tables.{columns-no-spans, spans-there, columns-no-towers, columns-done}
+use Rattle.verify.proofs.table.verify_columns.Goals as goal
+
+pub verify_spans-requires : goal.verify_spans-requires
+verify_spans-requires c = (c.requires.0, omega arith)
+
+pub returns-in_default : goal.returns-in_default
+returns-in_default c = columns-no-spans _ _ _ c.requires.0 _ _ c.requires.2 _ c.get32-first.ensures.is _ _ c.verify_spans.ensures c.in_default.is
+
+pub verify_towers-requires : goal.verify_towers-requires
+verify_towers-requires c =
+    let x = spans-there _ _ _ c.requires.0 _ _ c.requires.2 _ c.get32-first.ensures.is _ _ c.verify_spans.ensures _ _ c.in-Whole.is in
+    (x.1, x.0)
+
+pub returns-in_default-verify_towers : goal.returns-in_default-verify_towers
+returns-in_default-verify_towers c =
+    columns-no-towers _ _ _ c.requires.0 _ _ c.requires.2 _ c.get32-first.ensures.is _ _ c.verify_spans.ensures _ _ c.in-Whole.is
+    _ c.get32-head.ensures.is _ _ c.verify_towers.ensures c.in_default-verify_towers.is
+
+pub returns : goal.returns
+returns c =
+    columns-done _ _ _ c.requires.0 _ _ c.requires.2 _ c.get32-first.ensures.is _ _ c.verify_spans.ensures _ _ c.in-Whole.is
+    _ c.get32-head.ensures.is _ _ c.verify_towers.ensures _ c.in-Done.is

@@ -1,0 +1,39 @@
+-- `verify_table` meets its contract: each way out is a law of `Tables`.
+use native.Mathlib.Omega.{arith}
+use mathlib.Core.Path.{sym, ◌∙◌}
+use mathlib.Core.Bool.{true≢false}
+use borrow.Author.Rules.{rules}
+use Rattle.walks.proofs.Pieces.{claim-lent, claim-inside}
+use Rattle.verify.proofs.Tables.{table-no, table-size, table-broken, table-miscounted, table_done}
+use Rattle.verify.proofs.table.verify_table.Goals as goal
+
+pub returns-then-not-claim : goal.returns-then-not-claim
+returns-then-not-claim c = table-no _ _ _ _ _ _ (c.claim.ensures _ c.requires) c.if-not-claim.true
+
+pub get16-most-requires : goal.get16-most-requires
+get16-most-requires c = (claim-inside (c.claim.ensures _ c.requires) c.if-not-claim.false c.requires (omega arith))
+
+pub returns-then-most-lt2 : goal.returns-then-most-lt2
+returns-then-most-lt2 c = table-size _ _ _ _ _ _ (c.claim.ensures _ c.requires) c.if-not-claim.false (λ w. omega (arith, c.get16-most.ensures.is))
+
+pub returns-then-most-gt128 : goal.returns-then-most-gt128
+returns-then-most-gt128 c = table-size _ _ _ _ _ _ (c.claim.ensures _ c.requires) c.if-not-claim.false (λ w. omega (arith, c.get16-most.ensures.is))
+
+pub verify_columns-requires : goal.verify_columns-requires
+verify_columns-requires c = (claim-lent (c.claim.ensures _ c.requires) c.if-not-claim.false c.requires, (claim-inside (c.claim.ensures _ c.requires) c.if-not-claim.false c.requires (omega arith)), omega arith)
+
+pub returns-in_default : goal.returns-in_default
+returns-in_default c = table-broken _ _ _ _ _ _ (c.claim.ensures _ c.requires) c.if-not-claim.false _ c.get16-most.ensures.is _ _ c.verify_columns.ensures c.in_default.is
+
+pub are_counts-requires : goal.are_counts-requires
+are_counts-requires c = (claim-inside (c.claim.ensures _ c.requires) c.if-not-claim.false c.requires (omega arith))
+
+pub returns-then-are_counts : goal.returns-then-are_counts
+returns-then-are_counts c =
+    table_done _ _ _ _ _ _ (c.claim.ensures _ c.requires) c.if-not-claim.false _ c.get16-most.ensures.is _ _ c.verify_columns.ensures _ _ _ c.in-Whole.is
+    (c.are_counts.ensures.sound c.if-are_counts.true)
+
+pub returns : goal.returns
+returns c =
+    table-miscounted _ _ _ _ _ _ (c.claim.ensures _ c.requires) c.if-not-claim.false _ c.get16-most.ensures.is _ _ c.verify_columns.ensures _ _ _ c.in-Whole.is
+    (λ x. true≢false (sym (c.are_counts.ensures.complete x) ∙ c.if-are_counts.false))
