@@ -1,4 +1,6 @@
 // A table created on an accepted image.
+#![tactic(auto)]
+
 ghost use Rattle.create.specs.Creates.{EnterReady, Entered, CreateReady, Created};
 
 use draw::list::set_number;
