@@ -31,6 +31,7 @@ LEMMAS = {
     "crates/laws/proofs/Encodes.antt": ["first_small"],
     "crates/edit/proofs/Shapings.antt": ["no_change"],
     "crates/refusals/proofs/Tables.antt": ["no_table"],
+    "crates/change/proofs/Creates.antt": ["no_table"],
 }
 
 

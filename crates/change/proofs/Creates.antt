@@ -19,7 +19,7 @@ use Rattle.edit.specs.declared.apply.Applied.{Applied}
 use Rattle.create.specs.Creates.{NoTable, CreateReady, Created}
 use Rattle.change.specs.Change.{Lending, Changed}
 use Rattle.change.proofs.Settles.{Tried}
-use Rattle.refusals.proofs.Tables.{no_table, has-table}
+use Rattle.refusals.proofs.Tables.{no_table_lem, has-table}
 
 module _ {img s : List ℕ} {free : ℕ} (lent : Lending img s free) (name : List ℕ) where
   pub name-refused : name_rule.allowed name ≡ false → Changed (create name) img (NotWrote NameOrKey) img
@@ -42,7 +42,7 @@ module _ {img s : List ℕ} {free : ℕ} (lent : Lending img s free) (name : Lis
 
       passed : refused (ledger_of lent.layout) (create name) 0 ≡ none
       unfolding refused
-      passed = rw (good, no_table lent.layout name none_named.absent)
+      passed = rw (good, no_table_lem lent.layout name none_named.absent)
 
       pub create-tried : {a : Applied} {mid : List ℕ} → Created img free name a mid → Tried (create name) img lent.layout NoRoom a mid
       unfolding outcome_on

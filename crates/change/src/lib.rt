@@ -1,5 +1,7 @@
 // Put, remove and create on an accepted image, where table, key and value are not yet known to be allowed: the rows of the refusal table
 // from 4 on, then the change.
+#![tactic(auto)]
+
 ghost use Rattle.change.specs.Change.{Lending, Changed};
 ghost use Rattle.change.specs.Request.{op_of};
 
