@@ -1,4 +1,6 @@
 // The calls on a lent image. Each is for any bytes: no call has a precondition.
+#![tactic(auto)]
+
 ghost use Rattle.std.specs.Prelude.{[], ◌≡◌};
 ghost use Rattle.blockfile.specs.Refusals.{check, get, next, put, remove, create, refusal};
 ghost use Rattle.change.specs.Request.{op_of};
