@@ -16,7 +16,7 @@ use Rattle.blockfile.specs.Order.{there}
 use Rattle.blockfile.specs.Refusals.{Op, check, get, put, remove, next, create, Reply, refusal, Ledger, ledger_of, rows, lowest, refused, handed, done_reply}
 use Rattle.blockfile.specs.Answers.{no_room}
 use Rattle.blockfile.specs.Ledger.{Fed, stays, step_on, step, tables_after}
-use Rattle.blockfile.specs.History.{Event, fed, enough, Followed, Remembered, Demand3}
+use Rattle.blockfile.specs.History.{Event, fed, enough, said_to, Followed, Remembered, Demand3}
 use Rattle.laws.proofs.Ledgers.{layout-ok}
 use Rattle.laws.proofs.Room.{put-never-lacks}
 use Rattle.laws.proofs.Unique.{unique}
@@ -27,7 +27,7 @@ use Rattle.history.proofs.Functions.{demand}
 along : (P : List ℕ → Event → Type 0) → ((l : Ledger) (img : List ℕ) (e : Event) → Followed l img e → P img e)
     → (l : Ledger) (img : List ℕ) (es : List Event) → Remembered l img es → Throughout P img es
 along P one l img [] h = tt
-along P one l img (e ∷ es) h = (one l img e h.0, along P one _ e.image es h.1)
+along P one l img (e ∷ es) h = (one l img e h.0, along P one (said_to l h.0.holds.layout e).ledger e.image es h.1)
 
 in-each-run : (P : List ℕ → Event → Type 0) → ((l : Ledger) (img : List ℕ) (e : Event) → Followed l img e → P img e) → InEachRun P
 unfolding Demand3
