@@ -1,4 +1,6 @@
 // The calls for C and Rust, as include/calstore.h declares them.
+#![tactic(auto)]
+
 ghost use Rattle.std.specs.Prelude.{[]};
 ghost use Rattle.blockfile.specs.Refusals.{check, get, next, put, remove, create, plain, refusal};
 ghost use Rattle.blockfile.specs.Calls.{checked_reply, got_reply, wrote_reply};

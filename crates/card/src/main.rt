@@ -1,39 +1,39 @@
 // Reads an image of at most 32,768 bytes from standard input and writes one line: what check says of it.
-use blockfile::{Checked, Counts};
-use libc::{STDIN_FILENO, STDOUT_FILENO};
+#![tactic(auto)]
 
-fn write_counts(counts: Counts) {
-    io::write_all(STDOUT_FILENO, b"pages ");
-    io::print_decimal(STDOUT_FILENO, counts.pages as u64);
-    io::write_all(STDOUT_FILENO, b" tables ");
-    io::print_decimal(STDOUT_FILENO, counts.tables as u64);
-    io::write_all(STDOUT_FILENO, b" keys ");
-    io::print_decimal(STDOUT_FILENO, counts.keys as u64);
-    io::write_all(STDOUT_FILENO, b" free ");
-    io::print_decimal(STDOUT_FILENO, counts.free as u64);
-    io::write_all(STDOUT_FILENO, b"\n");
-}
+ghost use Rattle.std.specs.Prelude.{◌≤◌, length, IfOk};
 
-fn write_line(found: Checked) {
-    match found {
-        Checked::Sound(counts) => write_counts(counts),
-        Checked::Refused(why) => {
-            let numbers = store::numbers_of(why);
-            io::write_all(STDOUT_FILENO, b"refused ");
-            io::print_decimal(STDOUT_FILENO, numbers.0 as u64);
-            io::write_all(STDOUT_FILENO, b"\n");
+use blockfile::Checked;
+use std::io::{self, Read};
+
+// Reads until the buffer is full or the input ends, and answers how many bytes it read.
+fn read_full<R: Read>(reader: &mut R, buffer: &mut [u8]) -> io::Result<usize>
+    ensures { IfOk result (λ n. n ≤ length buffer.new) }
+{
+    let mut done = 0;
+    while done < buffer.len() {
+        let n = reader.read(&mut buffer[done..])?;
+        if n == 0 {
+            break;
         }
+        done += n;
     }
+    Ok(done)
 }
 
-fn main() {
+fn main(rt: HostRuntime) -> io::Result<()> {
     // one byte more than an image may have
     let mut input = [0u8; 32769];
-    let n = io::read_full(STDIN_FILENO, &mut input);
+    let n = read_full(&mut rt.reader(), &mut input)?;
     if 32768 < n {
-        io::write_all(STDOUT_FILENO, b"too long\n");
-        return;
+        return println!(rt; "too long");
     }
     let mut scratch = [0u8; 32768];
-    write_line(store::check(&input[..n], &mut scratch));
+    match store::check(&input[..n], &mut scratch) {
+        Checked::Sound(counts) => println!(rt;
+            "pages {} tables {} keys {} free {}",
+            counts.pages, counts.tables, counts.keys, counts.free
+        ),
+        Checked::Refused(why) => println!(rt; "refused {}", store::numbers_of(why).0),
+    }
 }
