@@ -1,7 +1,7 @@
 /* The calibration store: calls over a card's image that the caller lends.
  *
  * The library keeps nothing between calls: no heap, no files, no globals. Calls may run at the same time on different memory.
- * Link with target/staticlib/libcalstore.a, which `rt staticlib calstore` writes (Linux, x86-64).
+ * Link with crates/calstore/out/libcalstore.a, which `rt lib` in crates/calstore writes (Linux, x86-64).
  *
  * A slice is a pointer and its length in bytes. No alignment is asked of it. The pointer is not NULL, also where the length
  * is 0, and points to that many bytes. The slices of one call do not overlap. These are the caller's duty; beyond them any

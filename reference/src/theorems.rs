@@ -21,19 +21,19 @@ use std::fmt::{Display, Write};
 const HEAD: &str = include_str!("theorems-head.txt");
 
 /// The definitions that the checker opens to compute an outcome.
-const OUTCOME: &str = "outcomeOn onTable ledgerOf refused freeCount lacks layoutAfter writesOf changesOf putPlan removePlan unlinkPlan unlinking \
-createPlan wholeTable rewritePlan target spanAt parts wantedBy share towerHeight trailingZeros reached lensAt entryEnd draw rewrite tableAfter \
-rewriting relink nameRule keyRule wholeSpan wholeTower wholeSkipList counts word32 word16 superMark skipMark towerMark spanMark contMark blockMark \
-freeMark";
+const OUTCOME: &str = "outcome_on on_table ledger_of refused free_count lacks layout_after writes_of changes_of put_plan remove_plan unlink_plan unlinking \
+create_plan whole_table rewrite_plan target span_at parts wanted_by share new_height count_trailing_zeros reached lens_start entry_end draw rewrite table_after \
+rewriting relink name_rule key_rule whole_span whole_tower whole_skip_list counts word32 word16 super_mark skip_mark tower_mark span_mark cont_mark block_mark \
+free_mark";
 
 /// The definitions that the checker opens to read an image.
-const IMAGE: &str = "be16 be32 be64 word32 freeCount reached lensAt entryEnd nameRule keyRule superMark skipMark towerMark spanMark contMark blockMark freeMark";
+const IMAGE: &str = "be16 be32 be64 word32 free_count reached lens_start entry_end name_rule key_rule super_mark skip_mark tower_mark span_mark cont_mark block_mark free_mark";
 
 /// The definitions that the checker opens to compute a path.
-const PATH: &str = "path passed nameRule keyRule";
+const PATH: &str = "path passed name_rule key_rule";
 
 /// The definitions that the checker opens to compute the place at which a search ends.
-const SEARCH: &str = "byTowers nameRule keyRule";
+const SEARCH: &str = "by_towers name_rule key_rule";
 
 /// No longer key is searched for: the text compares it with those of a table anew at every level.
 const LONGEST_SOUGHT: usize = 16;
@@ -251,7 +251,7 @@ fn claims(text: &mut String, number: u64, image: &[u8], layout: &Layout, call: C
         "List (List ℕ)",
         &pages_text(&after),
     );
-    let outcome = format!("outcomeOn L{number} ({operation}) {room}");
+    let outcome = format!("outcome_on L{number} ({operation}) {room}");
     let reply = format!(
         "record {{ number = {}; len = {}; pages = {}; tables = {}; keys = {}; free = {} }}",
         reply.number, reply.length, reply.pages, reply.tables, reply.keys, reply.free
@@ -260,28 +260,28 @@ fn claims(text: &mut String, number: u64, image: &[u8], layout: &Layout, call: C
     theorem(
         text,
         &format!("reply{number}"),
-        &format!("{outcome} .reply ≡ {reply}"),
+        &format!("({outcome}).reply ≡ {reply}"),
         &opened,
         "refl",
     );
     theorem(
         text,
         &format!("handed{number}"),
-        &format!("{outcome} .bytes ≡ {}", row_text(handed)),
+        &format!("({outcome}).bytes ≡ {}", row_text(handed)),
         &opened,
         "refl",
     );
     theorem(
         text,
         &format!("written{number}"),
-        &format!("paged ({outcome} .writes) 1 before{number} ≡ after{number}"),
+        &format!("paged ({outcome}).writes 1 before{number} ≡ after{number}"),
         &opened,
         "refl",
     );
     theorem(
         text,
         &format!("layout{number}"),
-        &format!("leftBy L{number} ({operation}) ({outcome} .reply .number) ≡ M{number}"),
+        &format!("left_by L{number} ({operation}) ({outcome}).reply.number ≡ M{number}"),
         &opened,
         "refl",
     );
@@ -289,14 +289,14 @@ fn claims(text: &mut String, number: u64, image: &[u8], layout: &Layout, call: C
     theorem(
         text,
         &format!("bears{number}"),
-        &format!("Every (Bears (λ n. getD before{number} (n - 1) [])) (pieces L{number})"),
+        &format!("Every (Bears (λ n. get_or before{number} (n - 1) [])) (pieces L{number})"),
         &opened,
         &bears_text(layout),
     );
     theorem(
         text,
         &format!("kept{number}"),
-        &format!("KeptCount (freeCount (L{number} .free)) (be32 (getD before{number} 0 []) 28)"),
+        &format!("KeptCount (free_count L{number}.free) (be32 (get_or before{number} 0 []) 28)"),
         &opened,
         match layout.count_kept {
             false => "inl refl",
@@ -306,13 +306,13 @@ fn claims(text: &mut String, number: u64, image: &[u8], layout: &Layout, call: C
     theorem(
         text,
         &format!("meta{number}"),
-        &format!("TableOk nameRule (L{number} .meta)"),
+        &format!("TableOk name_rule L{number}.meta"),
         &opened,
         &rules_text(&layout.meta),
     );
     for (place, (name, table)) in layout.tables.iter().enumerate() {
         let statement = format!(
-            "TableOk (keyRule ({})) ({})",
+            "TableOk (key_rule ({})) ({})",
             row_text(name),
             table_text(table)
         );
@@ -343,10 +343,10 @@ fn search<'a>(random: &mut Random, number: u64, layout: &'a Layout) -> Search<'a
     let found = of_kind.max_by_key(|(_, (_, table))| table.levels());
     let (place, (searched, table)) = found.expect("the image has such a table");
     let (rule, term) = match place.checked_sub(1) {
-        None => ("nameRule".to_owned(), format!("(L{number} .meta)")),
+        None => ("name_rule".to_owned(), format!("L{number}.meta")),
         Some(place) => (
-            format!("(keyRule {})", row_text(&layout.tables[place].0)),
-            format!("(tableAt L{number} {place})"),
+            format!("(key_rule {})", row_text(&layout.tables[place].0)),
+            format!("(table_at L{number} {place})"),
         ),
     };
     Search {
@@ -394,7 +394,7 @@ fn search_claims(text: &mut String, number: u64, search: &Search) {
     let terms = format!("{} {}", search.rule, row_text(key));
     for (name, begins, bound) in [
         ("path", "begins", Bound::AtOrBelow),
-        ("pathBelow", "beginsBelow", Bound::Below),
+        ("path_below", "begins_below", Bound::Below),
     ] {
         let path = towers::path(table, &Sought { sort, key, bound });
         let passed = row_text(&path.passed[..path.height]);
@@ -409,8 +409,8 @@ fn search_claims(text: &mut String, number: u64, search: &Search) {
     let place = table.target(sort, key);
     theorem(
         text,
-        &format!("byTowers{number}"),
-        &format!("byTowers {terms} {} ≡ {place}", search.term),
+        &format!("by_towers{number}"),
+        &format!("by_towers {terms} {} ≡ {place}", search.term),
         &format!("L{number} {SEARCH}"),
         "refl",
     );
@@ -511,7 +511,7 @@ fn layout_text(layout: &Layout) -> String {
         )
     });
     format!(
-        "record {{ pages = {}; spanSize = {}; meta = {}; tables = {tables}; free = {free} }}",
+        "record {{ pages = {}; span_size = {}; meta = {}; tables = {tables}; free = {free} }}",
         layout.pages,
         layout.span_size,
         table_text(&layout.meta)
@@ -528,7 +528,7 @@ fn table_text(table: &Table) -> String {
         format!("record {{ span = {}; tower = {tower} }}", span_text(span))
     });
     format!(
-        "record {{ root = {}; spanSize = {}; first = {}; head = {}; rest = {rest} }}",
+        "record {{ root = {}; span_size = {}; first = {}; head = {}; rest = {rest} }}",
         table.root,
         table.span_size,
         span_text(first),
@@ -553,7 +553,7 @@ fn span_text(span: &Span) -> String {
 
 fn tower_text(tower: &Tower) -> String {
     format!(
-        "record {{ page = {}; maxHeight = {}; height = {} }}",
+        "record {{ page = {}; max_height = {}; height = {} }}",
         tower.page, tower.max, tower.height
     )
 }
@@ -571,7 +571,7 @@ fn nested(proofs: impl DoubleEndedIterator<Item = String>) -> String {
 
 /// That every piece of the layout is borne by its pages.
 fn bears_text(layout: &Layout) -> String {
-    let superblock = "record { mark = refl; major = refl; minor = refl; fileLength = refl; free = refl; mounted = omega arith; spanSize = refl; pageSize = refl }";
+    let superblock = "record { mark = refl; major = refl; minor = refl; file_length = refl; free = refl; mounted = omega arith; span_size = refl; page_size = refl }";
     let mut pieces = vec![superblock.to_owned()];
     for table in layout.all_tables() {
         pieces.extend(table_pieces(table));
@@ -587,7 +587,7 @@ fn bears_text(layout: &Layout) -> String {
 }
 
 fn table_pieces(table: &Table) -> Vec<String> {
-    let skip_list = "record { mark = refl; first = refl; level = refl; size = refl; spans = refl; levels = refl; spanSize = refl }";
+    let skip_list = "record { mark = refl; first = refl; level = refl; size = refl; spans = refl; levels = refl; span_size = refl }";
     let mut pieces = vec![skip_list.to_owned()];
     for span in &table.spans {
         let conts = span
@@ -598,12 +598,12 @@ fn table_pieces(table: &Table) -> Vec<String> {
             format!("(refl, refl, refl, refl, {rest})")
         });
         pieces.push(format!(
-            "record {{ mark = refl; cont = refl; prev = refl; next = refl; maxKeys = refl; size = refl; conts = {conts}; entries = {entries} }}"
+            "record {{ mark = refl; cont = refl; prev = refl; next = refl; max_keys = refl; size = refl; conts = {conts}; entries = {entries} }}"
         ));
     }
     for tower in std::iter::once(&table.head).chain(table.towers()) {
         let nexts = each(tower.height.into(), "refl");
-        pieces.push(format!("record {{ mark = refl; maxHeight = refl; height = refl; spanPage = refl; nexts = {nexts} }}"));
+        pieces.push(format!("record {{ mark = refl; max_height = refl; height = refl; span_page = refl; nexts = {nexts} }}"));
     }
     pieces
 }
@@ -616,7 +616,7 @@ fn rules_text(table: &Table) -> String {
     });
     let some = |count: usize| if count == 0 { "tt" } else { "omega arith" };
     format!(
-        "record {{ spanSize = omega arith; sizes = omega arith; filled = {}; reach = {}; keys = {}; values = {}; rising = {rising}; heights = omega arith; others = {} }}",
+        "record {{ span_size = omega arith; sizes = omega arith; filled = {}; reach = {}; keys = {}; values = {}; rising = {rising}; heights = omega arith; others = {} }}",
         some(table.spans.len() - 1),
         each(table.spans.len(), "refl"),
         each(keys, "tt"),

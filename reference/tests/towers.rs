@@ -110,8 +110,8 @@ fn theorems_on_searches() {
     };
     for searched in Searched::ALL {
         let paths = of(" : path (begins ", searched);
-        let below = of(" : path (beginsBelow ", searched);
-        let places = of(" : byTowers ", searched);
+        let below = of(" : path (begins_below ", searched);
+        let places = of(" : by_towers ", searched);
         assert_eq!([paths.len(), below.len(), places.len()], [100; 3]);
         let differ = paths.iter().zip(&below).filter(|(one, other)| one != other);
         let differ = differ.count();
@@ -123,9 +123,9 @@ fn theorems_on_searches() {
 
 /// What the left side of a theorem searches, by its rule.
 fn searched_by(left: &str) -> Searched {
-    if left.contains("nameRule") {
+    if left.contains("name_rule") {
         Searched::Metaindex
-    } else if left.contains(&format!("(keyRule (({} ∷", b'#')) {
+    } else if left.contains(&format!("(key_rule (({} ∷", b'#')) {
         Searched::Offsets
     } else {
         Searched::Ordinary

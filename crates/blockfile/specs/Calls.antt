@@ -1,7 +1,6 @@
 -- The promise of the public calls, for all inputs.
 use Rattle.std.specs.Prelude.{ℕ, ◌/◌, ◌%◌, ◌≤◌, ◌<◌, ◌≡◌, List, ◌++◌, Bool, true, false, ◌&&◌, length, drop, replicate, eqb}
 use Rattle.blockfile.specs.declared.Refusal.TheVariants.{ImageLength, ScratchLength, NotWellFormed}
-use Rattle.blockfile.specs.declared.Counts.{Counts}
 use Rattle.blockfile.specs.declared.Checked.{Checked}
 use Rattle.blockfile.specs.declared.Checked.TheVariants.{Sound, Refused as NotChecked}
 use Rattle.blockfile.specs.declared.Got.{Got}

@@ -1,5 +1,5 @@
 -- Remove: the span rewritten, or unlinked with its tower and given back.
-use Rattle.std.specs.Prelude.{ℕ, zero, suc, ◌+◌, ◌-◌, List, [], ◌∷◌, ◌++◌, map, take, drop}
+use Rattle.std.specs.Prelude.{ℕ, zero, suc, ◌-◌, List, [], ◌∷◌, ◌++◌, map, take, drop}
 use Rattle.blockfile.specs.Bytes.{Write, gather}
 use Rattle.blockfile.specs.Layout.{Entry, Tower, Table, Layout, columns, towers_of}
 use Rattle.blockfile.specs.Order.{name_rule, key_rule, insert, erase}

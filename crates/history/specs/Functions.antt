@@ -13,7 +13,7 @@ use Rattle.store.proofs.get.Reads as get-reads
 use Rattle.store.proofs.next.Kinds as next-kinds
 use Rattle.store.proofs.next.Reads as next-reads
 use Rattle.store.proofs.put.Kinds as put-kinds
-use Rattle.store.proofs.put.Reads as put_reads
+use Rattle.store.proofs.put.Reads as put-reads
 use Rattle.store.proofs.remove.Kinds as remove-kinds
 use Rattle.store.proofs.remove.Reads as remove-reads
 use Rattle.store.proofs.create.Kinds as create-kinds
@@ -32,8 +32,8 @@ pub record CallOf {n : ℕ} (params : List (ParamKind n)) (answer : ResultKind n
 abbrev pub event : Op → (scratch buffer : List ℕ) → Reply → (image scratch' buffer' : List ℕ) → Event
 event op s b r img s' b' = record { op = op; scratch = s; buffer = b; reply = r; image = img; scratch_after = s'; buffer_after = b' }
 
--- one of the six functions was called on this image, with this event. Of the arguments the image is .0, the scratch.1.0, the name
--- .1 .1 .0, the key.1.1.1.0, and put's value or the answer buffer .1 .1 .1 .1 .0
+-- one of the six functions was called on this image, with this event. Of the arguments the image is .0, the scratch .1.0, the name
+-- .1.1.0, the key .1.1.1.0, and put's value or the answer buffer .1.1.1.1.0
 pub data Made (img : List ℕ) (e : Event) : Type 0 where
   checked : (c : CallOf check-kinds.ps check-kinds.r check-reads.Learnt) → img ≡ c.args.0.now
       → e ≡ event check c.args.1.0.now [] (checked_reply c.result) c.args.0.now c.last.1.0.now [] → Made img e
@@ -43,7 +43,7 @@ pub data Made (img : List ℕ) (e : Event) : Type 0 where
   stepped : (c : CallOf next-kinds.ps next-kinds.r next-reads.Learnt) → img ≡ c.args.0.now
       → e ≡ event (next c.args.1.1.0.now c.args.1.1.1.0.now) c.args.1.0.now c.args.1.1.1.1.0.now (got_reply c.result) c.args.0.now c.last.1.0.now c.last.1.1.1.1.0.now
       → Made img e
-  written : (c : CallOf put-kinds.ps put-kinds.r put_reads.Learnt) → img ≡ c.args.0.now
+  written : (c : CallOf put-kinds.ps put-kinds.r put-reads.Learnt) → img ≡ c.args.0.now
       → e ≡ event (put c.args.1.1.0.now c.args.1.1.1.0.now c.args.1.1.1.1.0.now) c.args.1.0.now [] (wrote_reply c.result) c.last.0.now c.last.1.0.now []
       → Made img e
   removed : (c : CallOf remove-kinds.ps remove-kinds.r remove-reads.Learnt) → img ≡ c.args.0.now
@@ -67,6 +67,6 @@ pub record NothingAsked : Type 0 where
   pub check : AsksNothing check-kinds.ps check-reads.Asked
   pub get : AsksNothing get-kinds.ps get-reads.Asked
   pub next : AsksNothing next-kinds.ps next-reads.Asked
-  pub put : AsksNothing put-kinds.ps put_reads.Asked
+  pub put : AsksNothing put-kinds.ps put-reads.Asked
   pub remove : AsksNothing remove-kinds.ps remove-reads.Asked
   pub create : AsksNothing create-kinds.ps create-reads.Asked

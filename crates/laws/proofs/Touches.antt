@@ -14,7 +14,7 @@ use Rattle.blockfile.specs.Layout.{Span, Tower, Column, Table, Block, columns, s
 use Rattle.blockfile.specs.Fields.{SkipList, LinkedSpan, LinkedTower}
 use Rattle.blockfile.specs.WellFormed.{next_at, link_spans, link_towers, spans_in, towers_in, skip_list_of}
 use Rattle.blockfile.specs.Free.{Drawn, take_from, take_page, list_page, new_block, give_page, take_many, give_many, and_then, draw}
-use Rattle.blockfile.specs.Encode.{stream_pages, whole_span, whole_tower, whole_skip_list, counts}
+use Rattle.blockfile.specs.Encode.{stream_pages, whole_span, whole_tower, whole_skip_list}
 use Rattle.blockfile.specs.Put.{prev_link, next_link, counts_on, last_at, relink, raise, rewriting}
 use Rattle.blockfile.specs.Remove.{unlinking}
 use Rattle.blockfile.specs.Create.{whole_table}

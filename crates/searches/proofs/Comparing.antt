@@ -1,5 +1,5 @@
 -- Keys in a buffer.
-use Rattle.std.proofs.Common.{◌≡◌, ℕ, ◌+◌, ◌≤◌, Bool, true, false, cond, not, ltb, List, [], ◌++◌, length, take, drop, ◌∙◌, subst, arith, length-append, length-drop, length-take-le, ltb-false}
+use Rattle.std.proofs.Common.{◌≡◌, ℕ, ◌≤◌, Bool, true, false, cond, not, ltb, List, [], ◌++◌, length, take, drop, ◌∙◌, subst, arith, length-append, length-drop, length-take-le, ltb-false}
 use mathlib.Core.Option.{Option, none, some, get_or}
 use Rattle.blockfile.specs.declared.Refusal.{Refusal}
 use Rattle.blockfile.specs.declared.Refusal.TheVariants.{NoKey, BufferShort}

@@ -41,12 +41,9 @@ fn main(rt: HostRuntime) -> io::Result<()> {
             let mut name = [0u8; 65536];
             let mut key = [0u8; 65536];
             let tally = compare_tables(image, &mut name, &mut key);
-            println!(
-                rt;
+            println!(rt;
                 "keys {} searches {} different {}",
-                tally.keys,
-                tally.searches,
-                tally.different
+                tally.keys, tally.searches, tally.different
             )
         }
     }

@@ -1,6 +1,6 @@
 -- The image in four stages: superblock, metaindex, named tables, free list. What is to be found from a stage on is what is to be
 -- found from the start; at the end every page is claimed exactly if each is owned once.
-use Prim.Native.Nat.{ℕ, ◌+◌, ◌*◌, ◌≤◌}
+use Prim.Native.Nat.{ℕ, ◌*◌, ◌≤◌}
 use native.Mathlib.Omega.{arith}
 use mathlib.Core.Path.{◌≡◌, refl, ap, sym, ◌∙◌, subst}
 use mathlib.Core.Bool.{Bool, true, false, cond, true≢false}

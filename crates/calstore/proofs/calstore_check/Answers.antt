@@ -1,4 +1,3 @@
-use borrow.Author.Rules.{rules}
 use Rattle.calstore.proofs.Numbers.{answers}
 use Rattle.calstore.proofs.calstore_check.Goals as goal
 

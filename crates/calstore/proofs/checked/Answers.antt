@@ -1,5 +1,4 @@
 use mathlib.Core.Path.{refl, sym, ap, subst}
-use borrow.Author.Rules.{rules}
 use Rattle.blockfile.specs.declared.Checked.{Checked}
 use Rattle.blockfile.specs.Calls.{checked_reply}
 use Rattle.calstore.specs.Answers.{Bears}

@@ -1,5 +1,4 @@
 use mathlib.Core.Path.{◌∙◌}
-use borrow.Author.Rules.{rules}
 use Rattle.calstore.proofs.Numbers.{refusal_is}
 use Rattle.calstore.proofs.refused.Goals as goal
 

@@ -1,5 +1,4 @@
 use native.Mathlib.Omega.{arith}
-use borrow.Author.Rules.{rules}
 use Rattle.refusals.proofs.Opens.{stops, goes_on}
 use Rattle.store.proofs.Checks.{check_done}
 use Rattle.store.proofs.check.Goals as goal

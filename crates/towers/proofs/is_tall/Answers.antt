@@ -1,6 +1,5 @@
 -- `is_tall` meets its contract: where a test fails, so does its part of `Tall`.
 use native.Mathlib.Omega.{arith}
-use borrow.Author.Rules.{rules}
 use Rattle.walks.proofs.Founds.{decides-false}
 use Rattle.towers.specs.Climb.{Tall}
 use Rattle.towers.proofs.is_tall.Goals as goal

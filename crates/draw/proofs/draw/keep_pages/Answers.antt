@@ -1,4 +1,3 @@
-use Prim.Native.Nat.{◌-◌}
 use native.Mathlib.Omega.{arith}
 use Rattle.draw.proofs.Keeps.{keeping_start, keeping-inside, keeping-next, keeping-end}
 use Rattle.draw.proofs.draw.keep_pages.Goals as goal

@@ -1,4 +1,3 @@
-use Prim.Native.Nat.{◌-◌}
 use native.Mathlib.Omega.{arith}
 use Rattle.draw.proofs.Takes.{takeable, taking-start, taking-next, taking-end}
 use Rattle.draw.proofs.draw.take_pages.Goals as goal

@@ -1,4 +1,3 @@
-use Prim.Native.Nat.{◌-◌}
 use native.Mathlib.Omega.{arith}
 use Rattle.draw.proofs.Writes.{writing_start, writing-inside, writing-next, writing-end}
 use Rattle.draw.proofs.write.write_chain.Goals as goal

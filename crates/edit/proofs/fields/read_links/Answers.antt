@@ -1,8 +1,4 @@
 use Rattle.edit.proofs.FieldsRead.{links-read}
-use Rattle.edit.proofs.fields.read_links.Reads as reads
-use Rattle.edit.proofs.fields.read_links.Lts as lts
-use Rattle.pages.proofs.read.get16.Reads as get16-reads
-use Rattle.pages.proofs.read.get32.Reads as get32-reads
 use Rattle.edit.proofs.fields.read_links.Goals as goal
 
 pub returns : goal.returns

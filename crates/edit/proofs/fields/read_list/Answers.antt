@@ -1,9 +1,5 @@
 use native.Mathlib.Omega.{arith}
 use Rattle.edit.proofs.FieldsRead.{head-inside, list_of}
-use Rattle.edit.proofs.fields.read_list.Reads as reads
-use Rattle.edit.proofs.fields.read_list.Lts as lts
-use Rattle.pages.proofs.read.get16.Reads as get16-reads
-use Rattle.pages.proofs.read.get32.Reads as get32-reads
 use Rattle.edit.proofs.fields.read_list.Goals as goal
 
 -- the head's page

@@ -1,9 +1,6 @@
 use lib.Count.{trailing_le}
 use native.Mathlib.Omega.{arith}
-use borrow.Author.Rules.{rules}
 use Rattle.blockfile.specs.Put.{new_height}
-use Rattle.edit.proofs.height.tower_height.Reads as reads
-use Rattle.edit.proofs.height.tower_height.Lts as lts
 use Rattle.edit.proofs.height.tower_height.Goals as goal
 
 -- src/height.rt:11:37

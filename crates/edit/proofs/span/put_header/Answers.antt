@@ -1,7 +1,4 @@
 use Rattle.edit.proofs.Stagings.{header-stored}
-use Rattle.edit.proofs.span.put_header.Reads as reads
-use Rattle.edit.proofs.span.put_header.Lts as lts
-use Rattle.draw.proofs.list.set_number.Reads as set-number-reads
 use Rattle.edit.proofs.span.put_header.Goals as goal
 
 pub returns : goal.returns

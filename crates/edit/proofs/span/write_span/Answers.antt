@@ -6,10 +6,6 @@ use lib.Seq.{length-sets}
 use Rattle.draw.specs.Writing.{Writable, WroteChain}
 use Rattle.edit.specs.Staged.{stream_in}
 use Rattle.edit.proofs.Stagings.{header-fits, stream-ends, part-writable, part-wrote}
-use Rattle.edit.proofs.span.write_span.Reads as reads
-use Rattle.edit.proofs.span.write_span.Lts as lts
-use Rattle.edit.proofs.span.put_header.Reads as put-header-reads
-use Rattle.edit.proofs.span.write_stream.Reads as write-stream-reads
 use Rattle.edit.proofs.span.write_span.Goals as goal
 
 pub put_header-requires : goal.put_header-requires

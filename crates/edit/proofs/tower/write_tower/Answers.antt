@@ -1,9 +1,4 @@
 use Rattle.edit.proofs.Risings.{linkable-in, head-rises, head-stays}
-use Rattle.edit.proofs.tower.write_tower.Reads as reads
-use Rattle.edit.proofs.tower.write_tower.Lts as lts
-use Rattle.edit.proofs.tower.link_tower.Reads as link-tower-reads
-use Rattle.links.proofs.write.put_tower.Reads as put-tower-reads
-use Rattle.pages.proofs.write.put16.Reads as put16-reads
 use Rattle.edit.proofs.tower.write_tower.Goals as goal
 
 pub link_tower-requires : goal.link_tower-requires

@@ -1,7 +1,4 @@
 use Rattle.std.proofs.Common.{◌≡◌, ℕ, refl, arith}
-use Rattle.order.specs.declared.bytes.Order.{Order}
-use Rattle.order.specs.declared.bytes.Order.TheVariants.{Equal}
-use Rattle.entries.specs.Keys.{Compared}
 use Rattle.entries.proofs.Places.{step-enough}
 use Rattle.entries.proofs.Keys.{key-enough}
 use Rattle.entries.proofs.Parts.{walking_start, walked_end, walked-shorter, walked-longer, walked-part, walking-next, pages-long, pages-here, pages-part, pages-next, compared}

@@ -1,6 +1,4 @@
-use Rattle.std.proofs.Common.{◌≡◌, ℕ, ◌⊎◌, refl, ap, inl, inr, arith}
-use denote.Enum.Declared.{tag_of}
-use Rattle.order.specs.contracts.bytes.Order.{the_type}
+use Rattle.std.proofs.Common.{refl, arith}
 use Rattle.entries.proofs.Places.{step-enough}
 use Rattle.entries.proofs.Keys.{key-enough}
 use Rattle.entries.proofs.Parts.{walking_start, walked_end, walked-shorter, walked-longer, walked-part, walking-next, pages-long, pages-here, pages-part, pages-next, from-long, from-part, compared-to}

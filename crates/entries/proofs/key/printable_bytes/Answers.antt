@@ -1,4 +1,3 @@
-use Rattle.std.proofs.Common.{◌-◌}
 use Rattle.entries.proofs.Names.{scanned-none, scanned-low, scanned-high, scanned-more, scanned-all}
 use Rattle.entries.proofs.key.printable_bytes.Goals as goal
 

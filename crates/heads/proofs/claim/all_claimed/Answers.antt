@@ -1,4 +1,3 @@
-use Prim.Native.Nat.{◌-◌}
 use native.Mathlib.Nat.{le_antisymm}
 use native.Mathlib.Numerals.{add-one}
 use native.Mathlib.Omega.{arith}
@@ -15,8 +14,8 @@ loop-i-preserved c =
       omega arith,
       l.invariant.1,
       rw add-one (elim c.if-scratch-i-ne0.branch [
-        then-scratch-i-ne0 w ↦ full-not s l.i l.all l.invariant.2 _ w.if-scratch-i-ne0.true w.all-is
-      | else-scratch-i-ne0 w ↦ full-more s l.i l.all l.invariant.2 _ w.if-scratch-i-ne0.false w.all-is
+        | then-scratch-i-ne0 w ↦ full-not s l.i l.all l.invariant.2 _ w.if-scratch-i-ne0.true w.all-is
+        | else-scratch-i-ne0 w ↦ full-more s l.i l.all l.invariant.2 _ w.if-scratch-i-ne0.false w.all-is
       ]),
     )
 

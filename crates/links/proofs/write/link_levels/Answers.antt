@@ -1,4 +1,3 @@
-use Prim.Native.Nat.{◌-◌}
 use Rattle.links.proofs.Written.{linking-none, linking-inside, linking-more, linking-all}
 use Rattle.links.proofs.write.link_levels.Goals as goal
 

@@ -1,4 +1,3 @@
-use Prim.Native.Nat.{◌-◌}
 use native.Mathlib.Omega.{arith}
 use Rattle.links.proofs.Written.{entering-none, entering-more, entering-all}
 use Rattle.links.proofs.write.put_entries.Goals as goal

@@ -1,4 +1,3 @@
-use Prim.Native.Nat.{◌-◌}
 use native.Mathlib.Omega.{arith}
 use Rattle.order.proofs.Alike.{alike-less, alike-greater, alike-more, alike-shorter, alike-longer, alike_same}
 use Rattle.order.proofs.bytes.compare_rest.Goals as goal

@@ -1,4 +1,3 @@
-use Prim.Native.Nat.{◌-◌}
 use native.Mathlib.Omega.{arith}
 use Rattle.order.proofs.Alike.{word-less, word-greater, word_more}
 use Rattle.order.proofs.bytes.compare_words.Goals as goal

@@ -1,4 +1,3 @@
-use Prim.Native.Nat.{◌-◌}
 use native.Mathlib.Omega.{arith}
 use Rattle.order.proofs.Alike.{same_none, same-join}
 use Rattle.order.proofs.bytes.same_blocks.Goals as goal

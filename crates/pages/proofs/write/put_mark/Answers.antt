@@ -1,4 +1,3 @@
-use Prim.Native.Nat.{◌-◌}
 use native.Mathlib.Omega.{arith}
 use Rattle.pages.proofs.Stores.{stored-none, stored_more, stored-all}
 use Rattle.pages.proofs.Marks.{mark-length, mark-short, mark-at}

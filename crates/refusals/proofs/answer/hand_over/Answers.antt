@@ -1,4 +1,3 @@
-use borrow.Author.Rules.{rules}
 use Rattle.refusals.proofs.Handing.{hand-none, hand-enough, hand-short, hand-done}
 use Rattle.refusals.proofs.answer.hand_over.Goals as goal
 

@@ -1,4 +1,3 @@
-use borrow.Author.Rules.{rules}
 use Rattle.refusals.proofs.Keys.{empty-key, some_key}
 use Rattle.refusals.proofs.legal.is_key_or_empty.Goals as goal
 

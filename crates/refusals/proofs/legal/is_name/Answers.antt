@@ -1,5 +1,4 @@
 use mathlib.Core.Path.{sym, ◌∙◌}
-use borrow.Author.Rules.{rules}
 use Rattle.blockfile.specs.Order.{name_rule}
 use Rattle.refusals.proofs.legal.is_name.Goals as goal
 

@@ -1,5 +1,4 @@
 use mathlib.Core.Path.{refl, sym, ◌∙◌}
-use borrow.Author.Rules.{rules}
 use Rattle.blockfile.specs.Calls.{bad_length, short_scratch}
 use Rattle.refusals.proofs.Opens.{Fits, part-long, room, kept, bad, good}
 use Rattle.refusals.proofs.open.open.Goals as goal

@@ -1,5 +1,4 @@
 use mathlib.Core.Path.{sym, ◌∙◌}
-use borrow.Author.Rules.{rules}
 use Rattle.refusals.proofs.Tables.{bad-key, bad-name, long-value, unknown, known}
 use Rattle.refusals.proofs.table.named_table.Goals as goal
 

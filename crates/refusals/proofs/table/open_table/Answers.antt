@@ -1,5 +1,4 @@
 use native.Mathlib.Omega.{arith}
-use borrow.Author.Rules.{rules}
 use Rattle.refusals.proofs.Opens.{goes_on}
 use Rattle.refusals.proofs.Tables.{not_entered, entered}
 use Rattle.refusals.proofs.table.open_table.Goals as goal

@@ -1,6 +1,5 @@
 -- `remove::unlink::unlink` meets its contract.
 use Rattle.remove.proofs.Unlinkings.{table_read, precedes, going-at, unlinked}
-use borrow.Author.Rules.{rules}
 use Rattle.remove.proofs.unlink.unlink.Goals as goal
 
 pub read_list-list-requires : goal.read_list-list-requires

@@ -1,4 +1,3 @@
-use Prim.Native.Nat.{◌-◌}
 use Rattle.stage.proofs.Stagings.{staging-start, staging-next, staging-end, staging-room}
 use Rattle.stage.proofs.encode.stage.Goals as goal
 

@@ -1,4 +1,3 @@
-use Prim.Native.Nat.{◌-◌}
 use Rattle.stage.proofs.Measurings.{measuring-start, measuring-next, measuring-end, measuring-going, measuring-near}
 use Rattle.stage.proofs.measure.measure_part.Goals as goal
 

@@ -1,4 +1,3 @@
-use Prim.Native.Nat.{◌-◌}
 use native.Mathlib.Omega.{arith}
 use Rattle.verify.proofs.Frees.{listing_start, listing-end, listing-no, listing-next}
 use Rattle.verify.proofs.free.claim_listed.Goals as goal

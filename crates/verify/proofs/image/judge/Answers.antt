@@ -1,7 +1,6 @@
 use native.Mathlib.Omega.{arith}
 use mathlib.Core.Path.{◌∙◌, sym}
 use mathlib.Core.Bool.{true≢false}
-use borrow.Author.Rules.{rules}
 use Rattle.verify.proofs.Images.{super-lent, meta-lent, tables-lent, bad-super, bad-meta, meta-there, bad-tables, bad-free, bad-unowned, bad-kept, good}
 use Rattle.verify.proofs.image.judge.Goals as goal
 

@@ -1,6 +1,5 @@
 use native.Mathlib.Omega.{arith}
 use mathlib.Core.Path.{◌∙◌}
-use borrow.Author.Rules.{rules}
 use Rattle.walks.proofs.Founds.{unclaimed-most}
 use Rattle.verify.proofs.Named.{meta-inside, tabling-start, tabling-end, tabling-names, tabling-no, tabling-next}
 use Rattle.verify.proofs.names.verify_tables.Goals as goal

@@ -1,12 +1,7 @@
 use native.Mathlib.Omega.{arith}
 use mathlib.Core.Path.{◌∙◌, sym}
-use borrow.Author.Rules.{rules}
 use lib.Dec.{lit<}
 use Rattle.verify.proofs.Supers.{version-not, high-not, low-not, page-not, is-fixed, byte-below}
-use Rattle.verify.proofs.superblock.is_fixed.Reads as reads
-use Rattle.verify.proofs.superblock.is_fixed.Lts as lts
-use Rattle.pages.proofs.read.get16.Reads as get16-reads
-use Rattle.pages.proofs.read.get32.Reads as get32-reads
 use Rattle.verify.proofs.superblock.is_fixed.Goals as goal
 
 pub returns-then-get16-ne258 : goal.returns-then-get16-ne258

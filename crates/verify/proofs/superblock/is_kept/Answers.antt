@@ -1,4 +1,3 @@
-use borrow.Author.Rules.{rules}
 use Rattle.verify.proofs.Supers.{none_kept, is-kept, not-kept}
 use Rattle.verify.proofs.superblock.is_kept.Goals as goal
 

@@ -1,9 +1,5 @@
 use mathlib.Core.Path.{◌∙◌}
-use borrow.Author.Rules.{rules}
 use Rattle.verify.proofs.Tables.{size-not, spans-not, levels-not}
-use Rattle.verify.proofs.table.are_counts.Reads as reads
-use Rattle.verify.proofs.table.are_counts.Lts as lts
-use Rattle.pages.proofs.read.get32.Reads as get32-reads
 use Rattle.verify.proofs.table.are_counts.Goals as goal
 
 pub returns-then-get32-keys : goal.returns-then-get32-keys

@@ -1,6 +1,5 @@
 -- `verify_columns` meets its contract: the spans, then the towers.
 use native.Mathlib.Omega.{arith}
-use borrow.Author.Rules.{rules}
 use Rattle.verify.proofs.Tables.{columns-no-spans, spans-there, columns-no-towers, columns-done}
 use Rattle.verify.proofs.table.verify_columns.Goals as goal
 

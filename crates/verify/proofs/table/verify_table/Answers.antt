@@ -2,7 +2,6 @@
 use native.Mathlib.Omega.{arith}
 use mathlib.Core.Path.{sym, ◌∙◌}
 use mathlib.Core.Bool.{true≢false}
-use borrow.Author.Rules.{rules}
 use Rattle.walks.proofs.Pieces.{claim-lent, claim-inside}
 use Rattle.verify.proofs.Tables.{table-no, table-size, table-broken, table-miscounted, table_done}
 use Rattle.verify.proofs.table.verify_table.Goals as goal
