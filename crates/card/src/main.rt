@@ -3,8 +3,8 @@
 
 ghost use Rattle.std.specs.Prelude.{◌≤◌, length, IfOk};
 
-use blockfile::Checked;
-use std::io::{self, Read};
+use blockfile::{Checked, Counts};
+use std::io::{self, Print, Read};
 
 // Reads until the buffer is full or the input ends, and answers how many bytes it read.
 fn read_full<R: Read>(reader: &mut R, buffer: &mut [u8]) -> io::Result<usize>
@@ -21,6 +21,20 @@ fn read_full<R: Read>(reader: &mut R, buffer: &mut [u8]) -> io::Result<usize>
     Ok(done)
 }
 
+fn write_counts<R: Print>(rt: &R, counts: Counts) -> io::Result<()> {
+    println!(rt;
+        "pages {} tables {} keys {} free {}",
+        counts.pages, counts.tables, counts.keys, counts.free
+    )
+}
+
+fn write_line<R: Print>(rt: &R, found: Checked) -> io::Result<()> {
+    match found {
+        Checked::Sound(counts) => write_counts(rt, counts),
+        Checked::Refused(why) => println!(rt; "refused {}", store::numbers_of(why).0),
+    }
+}
+
 fn main(rt: HostRuntime) -> io::Result<()> {
     // one byte more than an image may have
     let mut input = [0u8; 32769];
@@ -29,11 +43,5 @@ fn main(rt: HostRuntime) -> io::Result<()> {
         return println!(rt; "too long");
     }
     let mut scratch = [0u8; 32768];
-    match store::check(&input[..n], &mut scratch) {
-        Checked::Sound(counts) => println!(rt;
-            "pages {} tables {} keys {} free {}",
-            counts.pages, counts.tables, counts.keys, counts.free
-        ),
-        Checked::Refused(why) => println!(rt; "refused {}", store::numbers_of(why).0),
-    }
+    write_line(&rt, store::check(&input[..n], &mut scratch))
 }

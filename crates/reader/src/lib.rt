@@ -11,7 +11,7 @@ use entries::copy::copy;
 use entries::place::{Place, forward};
 
 // The image, and the page and offset of the next byte; as for a place, the offset may be 1024.
-#[derive(Drop)]
+#[derive(Clone, Copy)]
 pub struct Reader<'a> {
     pub image: &'a [u8],
     pub page: usize,

@@ -5,9 +5,9 @@
 
 ghost use Rattle.std.specs.Prelude.{◌≤◌, length, IfOk};
 
-use compare::compare_tables;
+use compare::{Tally, compare_tables};
 use refusals::open::{Opened, open};
-use std::io::{self, Read};
+use std::io::{self, Print, Read};
 
 mod compare;
 
@@ -26,6 +26,23 @@ fn read_full<R: Read>(reader: &mut R, buffer: &mut [u8]) -> io::Result<usize>
     Ok(done)
 }
 
+fn write_tally<R: Print>(rt: &R, tally: Tally) -> io::Result<()> {
+    println!(rt;
+        "keys {} searches {} different {}",
+        tally.keys, tally.searches, tally.different
+    )
+}
+
+fn compare_card<R: Print>(rt: &R, image: &[u8]) -> io::Result<()> {
+    let mut scratch = [0u8; 32768];
+    let mut name = [0u8; 65536];
+    let mut key = [0u8; 65536];
+    match open(image, &mut scratch) {
+        Opened::Refused(_) => println!(rt; "refused"),
+        Opened::Accepted(_) => write_tally(rt, compare_tables(image, &mut name, &mut key)),
+    }
+}
+
 fn main(rt: HostRuntime) -> io::Result<()> {
     // one byte more than an image may have
     let mut input = [0u8; 32769];
@@ -33,18 +50,5 @@ fn main(rt: HostRuntime) -> io::Result<()> {
     if 32768 < n {
         return println!(rt; "too long");
     }
-    let image = &input[..n];
-    let mut scratch = [0u8; 32768];
-    match open(image, &mut scratch) {
-        Opened::Refused(_) => println!(rt; "refused"),
-        Opened::Accepted(_) => {
-            let mut name = [0u8; 65536];
-            let mut key = [0u8; 65536];
-            let tally = compare_tables(image, &mut name, &mut key);
-            println!(rt;
-                "keys {} searches {} different {}",
-                tally.keys, tally.searches, tally.different
-            )
-        }
-    }
+    compare_card(&rt, &input[..n])
 }
