@@ -1,12 +1,8 @@
 -- The promise of the public calls, for all inputs.
-use Rattle.std.specs.Prelude.{ℕ, ◌/◌, ◌%◌, ◌≤◌, ◌<◌, ◌≡◌, List, ◌++◌, Bool, true, false, ◌&&◌, length, drop, replicate, eqb}
+use Rattle.std.specs.Prelude.{ℕ, ◌/◌, ◌%◌, ◌≤◌, ◌<◌, ◌≡◌, List, ◌++◌, Bool, true, false, ◌&&◌, length, drop, replicate, eqb, Result, Ok, Err}
+use Rattle.blockfile.specs.declared.Refusal.{Refusal}
 use Rattle.blockfile.specs.declared.Refusal.TheVariants.{ImageLength, ScratchLength, NotWellFormed}
-use Rattle.blockfile.specs.declared.Checked.{Checked}
-use Rattle.blockfile.specs.declared.Checked.TheVariants.{Sound, Refused as NotChecked}
-use Rattle.blockfile.specs.declared.Got.{Got}
-use Rattle.blockfile.specs.declared.Got.TheVariants.{Found, Refused as NotGot}
-use Rattle.blockfile.specs.declared.Wrote.{Wrote}
-use Rattle.blockfile.specs.declared.Wrote.TheVariants.{Done, Refused as NotWrote}
+use Rattle.blockfile.specs.declared.Counts.{Counts}
 use Rattle.blockfile.specs.Bytes.{apply}
 use Rattle.blockfile.specs.Layout.{Layout}
 use Rattle.blockfile.specs.Order.{within}
@@ -15,17 +11,17 @@ use Rattle.blockfile.specs.Refusals.{Op, Reply, plain, refusal}
 use Rattle.blockfile.specs.Answers.{Outcome, refuse, outcome_on}
 
 -- document 01's numbers for each answer of the code
-abbrev pub checked_reply : Checked → Reply
-checked_reply (Sound c) = record { number = 0; len = 0; pages = c.pages; tables = c.tables; keys = c.keys; free = c.free }
-checked_reply (NotChecked f) = refusal f
+abbrev pub checked_reply : Result Counts Refusal → Reply
+checked_reply (Ok c) = record { number = 0; len = 0; pages = c.pages; tables = c.tables; keys = c.keys; free = c.free }
+checked_reply (Err f) = refusal f
 
-abbrev pub got_reply : Got → Reply
-got_reply (Found n) = plain 0 n
-got_reply (NotGot f) = refusal f
+abbrev pub got_reply : Result ℕ Refusal → Reply
+got_reply (Ok n) = plain 0 n
+got_reply (Err f) = refusal f
 
-abbrev pub wrote_reply : Wrote → Reply
-wrote_reply Done = plain 0 0
-wrote_reply (NotWrote f) = refusal f
+abbrev pub wrote_reply : Result (Unit {0}) Refusal → Reply
+wrote_reply (Ok done) = plain 0 0
+wrote_reply (Err f) = refusal f
 
 -- image length as above: 1024·P bytes, 4 ≤ P ≤ 4096
 unfoldable pub length_ok : ℕ → Bool

@@ -1,5 +1,6 @@
-// The trusted text: what an image is and what the calls answer. The definitions stand in specs/;
-// here are the answers of the calls.
+// The trusted text: what an image is and what the calls answer. The definitions stand in specs/; here are the types of the answers.
+// A call answers a `Result` with a `Refusal` for its error: check the counts, get and next the length of the value or key, and put,
+// remove and create nothing more.
 #![tactic(auto)]
 
 // Why a call is refused: the rows of the refusal table, 1 to 10.
@@ -24,25 +25,4 @@ pub struct Counts {
     pub tables: usize,
     pub keys: usize,
     pub free: usize,
-}
-
-// What check answers.
-#[derive(Clone, Copy)]
-pub enum Checked {
-    Sound(Counts),
-    Refused(Refusal),
-}
-
-// What get and next answer: the length of the value or key.
-#[derive(Clone, Copy)]
-pub enum Got {
-    Found(usize),
-    Refused(Refusal),
-}
-
-// What put, remove and create answer.
-#[derive(Clone, Copy)]
-pub enum Wrote {
-    Done,
-    Refused(Refusal),
 }

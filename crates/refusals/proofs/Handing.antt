@@ -1,33 +1,45 @@
 -- Handing over the answer: one law for each way out.
 use Prim.Native.Nat.{ℕ, ◌≤◌, ◌<◌}
-use mathlib.Core.Path.{◌≡◌, refl}
+use native.Mathlib.Omega.{arith}
+use mathlib.Core.Path.{◌≡◌, refl, ap}
 use mathlib.Core.List.{List}
 use mathlib.Core.Option.{Option}
 use borrow.Author.Tests.{lt-ltb, le-ltb}
 use lib.ListN.{length}
+use Rattle.blockfile.specs.declared.Refusal.{Refusal}
 use Rattle.blockfile.specs.declared.Refusal.TheVariants.{NoKey, BufferShort}
-use Rattle.blockfile.specs.declared.Got.TheVariants.{Found, Refused}
-use Rattle.entries.specs.declared.place.Place.{Place}
+use Rattle.std.specs.Prelude.{Option as Maybe, Some, None, Ok, Err, ok_or}
 use Rattle.entries.specs.Places.{Enough, Copied}
-use Rattle.search.specs.declared.span.Sought.{Sought}
-use Rattle.search.specs.declared.span.Sought.TheVariants.{Found as At, Missing}
+use Rattle.search.specs.declared.span.Extent.{Extent}
 use Rattle.search.specs.Spans.{Answered}
 use Rattle.search.proofs.Entries.{bytes-enough, bytes-length, bytes-copied}
 use Rattle.refusals.specs.Answer.{Hands}
 
-module _ {img : List ℕ} {o : Option (List ℕ)} {found : Sought} (a : Answered img o found) where
-  pub hand-none : found ≡ Missing → (old : List ℕ) → Hands o old (Refused NoKey) old
+-- ---- What was found, or that nothing was
+
+pub found-as : (o : Maybe Extent) (f : Refusal) {x : Extent} → ok_or o f ≡ Ok x → o ≡ Some x
+found-as None f e = absurd (let z : ◌≡◌ {A = ℕ} 0 1 = cc in omega arith)
+found-as (Some y) f e = let same : y ≡ _ = cc in ap (λ (i : Extent). Some i) same
+
+pub not-found : (o : Maybe Extent) (f : Refusal) {g : Refusal} → ok_or o f ≡ Err g → (o ≡ None) × (g ≡ f)
+not-found None f e = (refl, cc)
+not-found (Some y) f e = absurd (let z : ◌≡◌ {A = ℕ} 0 1 = cc in omega arith)
+
+-- ---- The ways out
+
+module _ {img : List ℕ} {o : Option (List ℕ)} {found : Maybe Extent} (a : Answered img o found) where
+  pub hand-none : found ≡ None → (old : List ℕ) → Hands o old (Err NoKey) old
   hand-none e old = (rw (a.missing e), refl)
 
-  module _ (at : Place) (n : ℕ) (e : found ≡ At at n) where
-    pub hand-enough : Enough img at n
-    hand-enough = bytes-enough (a.found at n e).2
+  module _ (x : Extent) (e : found ≡ Some x) where
+    pub hand-enough : Enough img x.at x.length
+    hand-enough = bytes-enough (a.found x e).2
 
-    pub hand-short : (old : List ℕ) → length old < n → Hands o old (Refused (BufferShort n)) old
-    hand-short old h = let v = a.found at n e in (rw (v.1, bytes-length v.2, lt-ltb (length old) n h), refl)
+    pub hand-short : (old : List ℕ) → length old < x.length → Hands o old (Err (BufferShort x.length)) old
+    hand-short old h = let v = a.found x e in (rw (v.1, bytes-length v.2, lt-ltb (length old) x.length h), refl)
 
-    pub hand-done : (old new : List ℕ) → n ≤ length old → Copied img at n old new → Hands o old (Found n) new
+    pub hand-done : (old new : List ℕ) → x.length ≤ length old → Copied img x.at x.length old new → Hands o old (Ok x.length) new
     hand-done old new h c =
-        let v = a.found at n e in
+        let v = a.found x e in
         let long = bytes-length v.2 in
-        (rw (v.1, long, le-ltb (length old) n h), rw (v.1, long), rw (v.1, long) (bytes-copied v.2 old new c))
+        (rw (v.1, long, le-ltb (length old) x.length h), rw (v.1, long), rw (v.1, long) (bytes-copied v.2 old new c))

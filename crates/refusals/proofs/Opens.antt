@@ -7,6 +7,7 @@ use mathlib.Core.Bool.{true}
 use lib.ListN.{length, take, drop, replicate, length-append, length-take, length-drop}
 use lib.Seq.{drop-append-add, drop-drop}
 use lib.Dec.{eqb, eqb→eq}
+use Rattle.std.specs.Prelude.{Result, Ok, Err}
 use Rattle.blockfile.specs.declared.Counts.{Counts}
 use Rattle.blockfile.specs.declared.Refusal.{Refusal}
 use Rattle.blockfile.specs.declared.Refusal.TheVariants.{NotWellFormed}
@@ -20,8 +21,6 @@ use Rattle.heads.specs.Claims.{Room}
 use Rattle.verify.specs.declared.image.Verdict.{Verdict}
 use Rattle.verify.specs.declared.image.Verdict.TheVariants.{Bad, Good}
 use Rattle.verify.specs.Image.{counts_of, Judged}
-use Rattle.refusals.specs.declared.open.Opened.{Opened}
-use Rattle.refusals.specs.declared.open.Opened.TheVariants.{Refused, Accepted}
 use Rattle.refusals.specs.Open.{Opening, Opens}
 
 -- n bytes are 4 to 4096 whole pages
@@ -92,17 +91,17 @@ module _ (img s : List ℕ) (fits : Fits img s) (r : Verdict) (judged : Judged i
 
 -- ---- What a call learns
 
-module _ (img s : List ℕ) (o : Opened) (out : List ℕ) (opens : Opens img s o out) where
+module _ (img s : List ℕ) (o : Result Counts Refusal) (out : List ℕ) (opens : Opens img s o out) where
   -- refused: the promise of every call is kept
-  pub stops : (f : Refusal) → o ≡ Refused f → (op : Op) (b : List ℕ) → Keeps op img s b (refusal f) img out b
+  pub stops : (f : Refusal) → o ≡ Err f → (op : Op) (b : List ℕ) → Keeps op img s b (refusal f) img out b
   stops f e op b =
       record {
         outcome = refuse f;
-        called = subst (λ (x : Opened). Opens img s x out) e opens op (length b);
+        called = subst (λ (x : Result Counts Refusal). Opens img s x out) e opens op (length b);
         result = refl;
         image = refl;
         answer = refl;
       }
 
-  pub goes_on : (c : Counts) → o ≡ Accepted c → Opening img s c out
-  goes_on c e = subst (λ (x : Opened). Opens img s x out) e opens
+  pub goes_on : (c : Counts) → o ≡ Ok c → Opening img s c out
+  goes_on c e = subst (λ (x : Result Counts Refusal). Opens img s x out) e opens

@@ -5,6 +5,7 @@ use mathlib.Core.List.{List, []}
 use mathlib.Core.Option.{Option, none, some, map, get_or}
 use mathlib.Core.Bool.{Bool, true, false, not, ◌||◌}
 use lib.ListN.{length}
+use Rattle.std.specs.Prelude.{Option as Maybe, Some, None, Result, Ok, Err, ok_or}
 use Rattle.blockfile.specs.declared.Counts.{Counts}
 use Rattle.blockfile.specs.declared.Refusal.{Refusal}
 use Rattle.blockfile.specs.declared.Refusal.TheVariants.{NameOrKey, ValueLength, NoTable}
@@ -14,13 +15,7 @@ use Rattle.blockfile.specs.Refusals.{Op, ledger_of, refusal, map_of, no_table, l
 use Rattle.blockfile.specs.Answers.{refuse, outcome_if, outcome_on}
 use Rattle.blockfile.specs.Calls.{cleared, accepted, Keeps}
 use Rattle.laws.proofs.Middle.{find-under}
-use Rattle.search.specs.declared.table.Named.{Named}
-use Rattle.search.specs.declared.table.Named.TheVariants.{Root, Unknown}
 use Rattle.search.specs.Tables.{NamedAs}
-use Rattle.refusals.specs.declared.open.Opened.{Opened}
-use Rattle.refusals.specs.declared.open.Opened.TheVariants.{Refused as Unopened}
-use Rattle.refusals.specs.declared.table.Entered.{Entered}
-use Rattle.refusals.specs.declared.table.Entered.TheVariants.{Refused, Found}
 use Rattle.refusals.specs.Open.{Opening, Opens}
 use Rattle.refusals.specs.Table.{table_rows, OnTable, NamedTable, Entering, Enters}
 use Rattle.refusals.proofs.Opens.{ends}
@@ -50,27 +45,28 @@ or-true true = refl
 or-true false = refl
 
 module _ (img name : List ℕ) (legal short : Bool) where
-  pub bad-key : legal ≡ false → NamedTable img name legal short (Refused NameOrKey)
+  pub bad-key : legal ≡ false → NamedTable img name legal short (Err NameOrKey)
   bad-key e = record { is = λ L w. rw (e, or-true (not (name_rule.allowed name))) }
 
-  pub bad-name : name_rule.allowed name ≡ false → NamedTable img name legal short (Refused NameOrKey)
+  pub bad-name : name_rule.allowed name ≡ false → NamedTable img name legal short (Err NameOrKey)
   bad-name e = record { is = λ L w. rw e }
 
   module _ (ok : legal ≡ true) (good : name_rule.allowed name ≡ true) where
-    pub long-value : short ≡ false → NamedTable img name legal short (Refused ValueLength)
+    pub long-value : short ≡ false → NamedTable img name legal short (Err ValueLength)
     long-value e = record { is = λ L w. rw (ok, good, e) }
 
-    module _ (fits : short ≡ true) (r : Named) (n : NamedAs img name r) where
-      pub unknown : r ≡ Unknown → NamedTable img name legal short (Refused NoTable)
-      unknown e = record { is = λ L w. rw (ok, good, fits, no_table_lem L name ((n.is L w).unknown e)) }
-
-      pub known : (page : ℕ) → r ≡ Root page → NamedTable img name legal short (Found page)
-      known page e =
-          record {
-            is = λ L w.
-                let f = (n.is L w).root page e in
-                (rw (ok, good, fits, has-table L name f.0 f.1), record { table = f.0; found = f.1; root = f.2 });
-          }
+    module _ (fits : short ≡ true) (r : Maybe ℕ) (n : NamedAs img name r) where
+      pub known : NamedTable img name legal short (ok_or r NoTable)
+      known = go r refl
+        where
+          go : (o : Maybe ℕ) → r ≡ o → NamedTable img name legal short (ok_or o NoTable)
+          go None e = record { is = λ L w. rw (ok, good, fits, no_table_lem L name ((n.is L w).unknown e)) }
+          go (Some page) e =
+              record {
+                is = λ L w.
+                    let f = (n.is L w).root page e in
+                    (rw (ok, good, fits, has-table L name f.0 f.1), record { table = f.0; found = f.1; root = f.2 });
+              }
 
 -- ---- What the rows of the table say of a call
 
@@ -91,16 +87,16 @@ module _ {op : Op} {name : List ℕ} {legal short : Bool} (on : OnTable op name 
 
 module _ (img s name : List ℕ) (legal : Bool) where
   -- refused with 1 to 3
-  pub not_entered : (o : Opened) (out : List ℕ) → Opens img s o out → (f : Refusal) → o ≡ Unopened f → Enters img s name legal (Refused f) out
-  not_entered o out opens f e = λ op on room. subst (λ (x : Opened). Opens img s x out) e opens op room
+  pub not_entered : (o : Result Counts Refusal) (out : List ℕ) → Opens img s o out → (f : Refusal) → o ≡ Err f → Enters img s name legal (Err f) out
+  not_entered o out opens f e = λ op on room. subst (λ (x : Result Counts Refusal). Opens img s x out) e opens op room
 
   pub entered : (c : Counts) (mid out : List ℕ) → Opening img s c mid → out ≡ cleared (length img) mid
-      → (r : Entered) → NamedTable img name legal true r → Enters img s name legal r out
-  entered c mid out o clear (Refused f) n = λ op on room.
+      → (r : Result ℕ Refusal) → NamedTable img name legal true r → Enters img s name legal r out
+  entered c mid out o clear (Err f) n = λ op on room.
       accepted o.sized o.enough o.layout o.well
       (sym (rows-refuse on o.layout room f (n.is o.layout o.well)))
       (ends (length img) s mid out o.past clear)
-  entered c mid out o clear (Found page) n =
+  entered c mid out o clear (Ok page) n =
       let t = n.is o.layout o.well in
       record {
         sized = o.sized;
@@ -114,17 +110,17 @@ module _ (img s name : List ℕ) (legal : Bool) where
 
 -- ---- What a call learns
 
-module _ (img s name : List ℕ) (legal : Bool) (r : Entered) (out : List ℕ) (enters : Enters img s name legal r out) where
+module _ (img s name : List ℕ) (legal : Bool) (r : Result ℕ Refusal) (out : List ℕ) (enters : Enters img s name legal r out) where
   -- refused: the promise of every call on a table is kept
-  pub table-stops : (f : Refusal) → r ≡ Refused f → (op : Op) → OnTable op name legal true → (b : List ℕ) → Keeps op img s b (refusal f) img out b
+  pub table-stops : (f : Refusal) → r ≡ Err f → (op : Op) → OnTable op name legal true → (b : List ℕ) → Keeps op img s b (refusal f) img out b
   table-stops f e op on b =
       record {
         outcome = refuse f;
-        called = subst (λ (x : Entered). Enters img s name legal x out) e enters op on (length b);
+        called = subst (λ (x : Result ℕ Refusal). Enters img s name legal x out) e enters op on (length b);
         result = refl;
         image = refl;
         answer = refl;
       }
 
-  pub table-goes-on : (page : ℕ) → r ≡ Found page → Entering img s name legal page out
-  table-goes-on page e = subst (λ (x : Entered). Enters img s name legal x out) e enters
+  pub table-goes-on : (page : ℕ) → r ≡ Ok page → Entering img s name legal page out
+  table-goes-on page e = subst (λ (x : Result ℕ Refusal). Enters img s name legal x out) e enters

@@ -1,14 +1,13 @@
 -- What opening an image promises to the calls.
-use Rattle.std.specs.Prelude.{ℕ, ◌≤◌, ◌≡◌, List, true, length, drop}
+use Rattle.std.specs.Prelude.{ℕ, ◌≤◌, ◌≡◌, List, true, length, drop, Result, Ok, Err}
 use Rattle.blockfile.specs.declared.Counts.{Counts}
+use Rattle.blockfile.specs.declared.Refusal.{Refusal}
 use Rattle.blockfile.specs.Layout.{Layout}
 use Rattle.blockfile.specs.WellFormed.{WellFormed}
 use Rattle.blockfile.specs.Refusals.{Op}
 use Rattle.blockfile.specs.Answers.{refuse}
 use Rattle.blockfile.specs.Calls.{length_ok, Called}
 use Rattle.verify.specs.Image.{counts_of}
-use Rattle.refusals.specs.declared.open.Opened.{Opened}
-use Rattle.refusals.specs.declared.open.Opened.TheVariants.{Refused, Accepted}
 
 -- the image is well-formed and has these counts; the scratch is that long, and past the image's length it is as it was
 pub record Opening (img scratch : List ℕ) (c : Counts) (out : List ℕ) : Type 0 where
@@ -21,6 +20,6 @@ pub record Opening (img scratch : List ℕ) (c : Counts) (out : List ℕ) : Type
   pub past : drop (length img) out ≡ drop (length img) scratch
 
 -- a refusal is the outcome of every call; else the call goes on
-abbrev pub Opens : (img scratch : List ℕ) → Opened → (out : List ℕ) → Type 0
-Opens img scratch (Refused f) out = (op : Op) (room : ℕ) → Called op img scratch room (refuse f) out
-Opens img scratch (Accepted c) out = Opening img scratch c out
+abbrev pub Opens : (img scratch : List ℕ) → Result Counts Refusal → (out : List ℕ) → Type 0
+Opens img scratch (Err f) out = (op : Op) (room : ℕ) → Called op img scratch room (refuse f) out
+Opens img scratch (Ok c) out = Opening img scratch c out

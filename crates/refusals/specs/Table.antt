@@ -1,5 +1,5 @@
 -- What finding the table of a call promises.
-use Rattle.std.specs.Prelude.{ℕ, ◌≤◌, ◌≡◌, List, [], ◌∷◌, ◌++◌, Bool, true, not, ◌||◌, length}
+use Rattle.std.specs.Prelude.{ℕ, ◌≤◌, ◌≡◌, List, [], ◌∷◌, ◌++◌, Bool, true, not, ◌||◌, length, Result, Ok, Err}
 use Rattle.std.proofs.Math.Option.{none, some}
 use Rattle.blockfile.specs.declared.Refusal.{Refusal}
 use Rattle.blockfile.specs.declared.Refusal.TheVariants.{NameOrKey, ValueLength, NoTable}
@@ -9,8 +9,6 @@ use Rattle.blockfile.specs.WellFormed.{WellFormed}
 use Rattle.blockfile.specs.Refusals.{Op, Ledger, ledger_of, bad_name, no_table, rows, lowest}
 use Rattle.blockfile.specs.Answers.{refuse}
 use Rattle.blockfile.specs.Calls.{length_ok, cleared, Called}
-use Rattle.refusals.specs.declared.table.Entered.{Entered}
-use Rattle.refusals.specs.declared.table.Entered.TheVariants.{Refused, Found}
 
 -- rows 4 to 6 of the refusal table, for a call whose key is allowed or not, and whose value is short enough or not
 abbrev pub table_rows : Ledger → (name : List ℕ) → (legal short : Bool) → List (Bool × Refusal)
@@ -28,11 +26,11 @@ pub record TableIn (L : Layout) (name : List ℕ) (page : ℕ) : Type 0 where
   pub root : table.root ≡ page
 
 -- refused by these rows, or none of them holds and the table is found
-abbrev pub NamedIn : Layout → (name : List ℕ) → (legal short : Bool) → Entered → Type 0
-NamedIn L name legal short (Refused f) = lowest (table_rows (ledger_of L) name legal short) ≡ some f
-NamedIn L name legal short (Found page) = (lowest (table_rows (ledger_of L) name legal short) ≡ none) × TableIn L name page
+abbrev pub NamedIn : Layout → (name : List ℕ) → (legal short : Bool) → Result ℕ Refusal → Type 0
+NamedIn L name legal short (Err f) = lowest (table_rows (ledger_of L) name legal short) ≡ some f
+NamedIn L name legal short (Ok page) = (lowest (table_rows (ledger_of L) name legal short) ≡ none) × TableIn L name page
 
-pub record NamedTable (img name : List ℕ) (legal short : Bool) (r : Entered) : Type 0 where
+pub record NamedTable (img name : List ℕ) (legal short : Bool) (r : Result ℕ Refusal) : Type 0 where
   pub is : (L : Layout) → WellFormed img L → NamedIn L name legal short r
 
 -- the image is well-formed and has the table; the scratch is cleared
@@ -46,6 +44,6 @@ pub record Entering (img scratch name : List ℕ) (legal : Bool) (page : ℕ) (o
   pub clear : out ≡ cleared (length img) scratch
 
 -- a refusal is the outcome of every call on a table with no value; else the call goes on
-abbrev pub Enters : (img scratch name : List ℕ) (legal : Bool) → Entered → (out : List ℕ) → Type 0
-Enters img scratch name legal (Refused f) out = (op : Op) → OnTable op name legal true → (room : ℕ) → Called op img scratch room (refuse f) out
-Enters img scratch name legal (Found page) out = Entering img scratch name legal page out
+abbrev pub Enters : (img scratch name : List ℕ) (legal : Bool) → Result ℕ Refusal → (out : List ℕ) → Type 0
+Enters img scratch name legal (Err f) out = (op : Op) → OnTable op name legal true → (room : ℕ) → Called op img scratch room (refuse f) out
+Enters img scratch name legal (Ok page) out = Entering img scratch name legal page out

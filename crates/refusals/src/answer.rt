@@ -4,21 +4,24 @@ ghost use Rattle.std.proofs.Math.Option.{Option};
 ghost use Rattle.search.specs.Spans.{Answered};
 ghost use Rattle.refusals.specs.Answer.{Hands};
 
-use blockfile::{Got, Refusal};
+use blockfile::Refusal;
 use reader::copy_from;
-use search::span::Sought;
+use search::span::Extent;
 
-// Copies the bytes found to the start of the answer buffer.
-pub fn hand_over(image: &[u8], found: Sought, answer: &mut [u8]) -> Got
+// Copies the bytes found to the start of the answer buffer, and answers how many they are.
+pub fn hand_over(
+    image: &[u8],
+    found: Option<Extent>,
+    answer: &mut [u8],
+) -> Result<usize, Refusal>
     requires { (o : Option (List ℕ)) × Answered image.now o found }
     ensures { (o : Option (List ℕ)) → Answered image.now o found → Hands o answer.old result answer.new }
 {
-    let Sought::Found(at, n) = found else {
-        return Got::Refused(Refusal::NoKey);
-    };
+    let bytes = found.ok_or(Refusal::NoKey)?;
+    let n = bytes.length;
     if answer.len() < n {
-        return Got::Refused(Refusal::BufferShort(n));
+        return Err(Refusal::BufferShort(n));
     }
-    copy_from(image, at, n, answer);
-    Got::Found(n)
+    copy_from(image, bytes.at, n, answer);
+    Ok(n)
 }

@@ -10,20 +10,14 @@ use order::sort::{Sort, lengths_of};
 pub fn is_within(lo: usize, hi: usize, n: usize) -> bool
     ensures { result ≡ within lo hi n }
 {
-    if n < lo {
-        return false;
-    }
-    if n <= hi { true } else { false }
+    lo <= n && n <= hi
 }
 
 // Whether the bytes are the name of a table.
 pub fn is_name(name: &[u8]) -> bool
     ensures { result ≡ name_rule.allowed name.now }
 {
-    if !is_within(1, 255, name.len()) {
-        return false;
-    }
-    printable_bytes(name)
+    is_within(1, 255, name.len()) && printable_bytes(name)
 }
 
 // Whether the bytes are a key of a table whose keys sort so.
@@ -38,15 +32,12 @@ pub fn is_key(sort: Sort, key: &[u8]) -> bool
 pub fn is_key_or_empty(sort: Sort, key: &[u8]) -> bool
     ensures { result ≡ (same key.now [] || (rule_as sort).allowed key.now) }
 {
-    if key.len() == 0 {
-        return true;
-    }
-    is_key(sort, key)
+    key.is_empty() || is_key(sort, key)
 }
 
 // Whether the bytes can be a value.
 pub fn is_value(value: &[u8]) -> bool
     ensures { result ≡ not (ltb 65535 (length value.now)) }
 {
-    if value.len() <= 65535 { true } else { false }
+    value.len() <= 65535
 }

@@ -8,39 +8,29 @@ use blockfile::{Counts, Refusal};
 use pages::write::clear;
 use verify::image::{Verdict, verify};
 
-// Refused with 1, 2 or 3, or accepted with what check counts.
-#[derive(Clone, Copy)]
-pub enum Opened {
-    Refused(Refusal),
-    Accepted(Counts),
-}
-
 // Whether n is the length of an image: 4 to 4096 pages of 1024 bytes.
 fn is_length(n: usize) -> bool
     ensures { result ≡ length_ok n }
 {
-    if !is_within(4, 4096, n / 1024) {
-        return false;
-    }
-    if n % 1024 == 0 { true } else { false }
+    is_within(4, 4096, n / 1024) && n % 1024 == 0
 }
 
-// Verifies the image. A refused call is at its end; on an accepted image the call goes on, with the scratch as its own up to the
+// Verifies the image: refused with 1, 2 or 3, or what check counts. A refused call is at its end; on an accepted image the call goes on, with the scratch as its own up to the
 // image's length, and clears it when it ends.
-pub fn open(image: &[u8], scratch: &mut [u8]) -> Opened
+pub fn open(image: &[u8], scratch: &mut [u8]) -> Result<Counts, Refusal>
     ensures { Opens image.now scratch.old result scratch.new }
 {
     if !is_length(image.len()) {
-        return Opened::Refused(Refusal::ImageLength);
+        return Err(Refusal::ImageLength);
     }
     if scratch.len() < image.len() {
-        return Opened::Refused(Refusal::ScratchLength);
+        return Err(Refusal::ScratchLength);
     }
     // room for the heads of the pages
     let heads = 20 * (image.len() / 1024);
     let Verdict::Good(counts) = verify(image, &mut scratch[..heads]) else {
         clear(scratch, image.len());
-        return Opened::Refused(Refusal::NotWellFormed);
+        return Err(Refusal::NotWellFormed);
     };
-    Opened::Accepted(counts)
+    Ok(counts)
 }

@@ -14,9 +14,8 @@ use Rattle.laws.proofs.Numbers.{be32-agree, be32-word32, length-word32}
 use Rattle.laws.proofs.Middle.{find-under}
 use Rattle.entries.specs.declared.place.Place.{Place}
 use Rattle.entries.specs.Places.{Enough, Numbered}
-use Rattle.search.specs.declared.span.Sought.{Sought}
-use Rattle.search.specs.declared.span.Sought.TheVariants.{Found, Missing}
-use Rattle.search.specs.declared.table.Named.TheVariants.{Root, Unknown}
+use Rattle.std.specs.Prelude.{Option as Maybe, Some, None}
+use Rattle.search.specs.declared.span.Extent.{Extent}
 use Rattle.search.specs.Spans.{BytesAt, Answered}
 use Rattle.search.specs.Tables.{metaindex, FoundIn, NamedIn}
 use Rattle.search.proofs.Readables.{table-readable, meta_by}
@@ -49,26 +48,26 @@ module _ (img : List ℕ) (L : Layout) (w : WellFormed img L) (name : List ℕ) 
       go none f = refl
       go (some t) f = absurd (let z : ◌≡◌ {A = ℕ} 0 1 = cc in omega arith)
 
-  module _ (a : Sought) (f : FoundIn img metaindex name a) where
+  module _ (a : Maybe Extent) (f : FoundIn img metaindex name a) where
     there : Answered img (find name (entries_of L.meta)) a
     there = f.is (meta_by img L w)
 
-    pub named_none : a ≡ Missing → NamedIn L name Unknown
+    pub named_none : a ≡ None → NamedIn L name None
     named_none e =
         record { root = λ p q. absurd (let z : ◌≡◌ {A = ℕ} 0 1 = cc in omega arith); unknown = λ q. unknown (there.missing e) }
 
-    module _ (at : Place) (n : ℕ) (e : a ≡ Found at n) where
-      value : (v : List ℕ) × (find name (entries_of L.meta) ≡ some v) × BytesAt img at n v
-      value = there.found at n e
+    module _ (x : Extent) (e : a ≡ Some x) where
+      value : (v : List ℕ) × (find name (entries_of L.meta) ≡ some v) × BytesAt img x.at x.length v
+      value = there.found x e
 
       named : Under value.0
       named = under value.0 value.1
 
-      four : n ≡ 4
+      four : x.length ≡ 4
       four =
-          omega (arith, length-word32 named.table.root, ap length named.bytes, ap length value.2.is, length-take-le n value.2.bytes value.2.long)
+          omega (arith, length-word32 named.table.root, ap length named.bytes, ap length value.2.is, length-take-le x.length value.2.bytes value.2.long)
 
-      pub named-enough : Enough img at 4
+      pub named-enough : Enough img x.at 4
       named-enough = record { bytes = value.2.bytes; rest = value.2.rest; long = omega (arith, four, value.2.long) }
 
       small-root : named.table.root < 4294967296
@@ -76,13 +75,13 @@ module _ (img : List ℕ) (L : Layout) (w : WellFormed img L) (name : List ℕ) 
           let r = table-readable img L w name named.table named.is in
           omega (arith, r.small, r.borne.0.1.0.high)
 
-      pub named-root : (r : ℕ) → Numbered img at r → NamedIn L name (Root r)
+      pub named-root : (r : ℕ) → Numbered img x.at r → NamedIn L name (Some r)
       named-root r h =
           let bs : List ℕ = value.2.bytes in
-          let first : be32 bs 0 ≡ be32 (take n bs) 0 = be32-agree bs 0 (take n bs) 0 (λ k l. sym (get_or-take n bs _ 0 (omega (arith, four)))) in
+          let first : be32 bs 0 ≡ be32 (take x.length bs) 0 = be32-agree bs 0 (take x.length bs) 0 (λ k l. sym (get_or-take x.length bs _ 0 (omega (arith, four)))) in
           let is : r ≡ named.table.root
           = h.is bs value.2.rest ∙ first ∙ ap (λ (b : List ℕ). be32 b 0) (sym value.2.is ∙ named.bytes) ∙ be32-word32 named.table.root small-root in
           record {
-            root = λ p q. (named.table, named.is, let x : r ≡ p = cc in sym is ∙ x);
+            root = λ p q. (named.table, named.is, let same : r ≡ p = cc in sym is ∙ same);
             unknown = λ q. absurd (let z : ◌≡◌ {A = ℕ} 0 1 = cc in omega arith);
           }

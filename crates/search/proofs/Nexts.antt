@@ -20,8 +20,8 @@ use Rattle.laws.proofs.Middle.{AllOver, or_then}
 use Rattle.laws.proofs.Targets.{next_span_key, above-empty, least-key, above_at}
 use Rattle.laws.proofs.Paths.{last-behind}
 use Rattle.order.proofs.Sorts.{below-some}
-use Rattle.search.specs.declared.span.Sought.{Sought}
-use Rattle.search.specs.declared.span.Sought.TheVariants.{Found, Missing}
+use Rattle.std.specs.Prelude.{Option as Maybe, Some, None}
+use Rattle.search.specs.declared.span.Extent.{Extent}
 use Rattle.search.specs.declared.table.TableRef.{TableRef}
 use Rattle.search.specs.Spans.{Sorts, SpanOn, EntryThere, Answered, AboveOn, KeyOf}
 use Rattle.search.specs.Tables.{Reading, ReadingBy, TargetIn}
@@ -67,7 +67,7 @@ module _ {img : List ℕ} {root : ℕ} (t : Reading img root) where
       (sym empty-first) least
   above-target (x ∷ k) = above_at t.rule (ordered t) (x ∷ k) t.table (place t (x ∷ k)) (at_target t (x ∷ k)) t.readable.ok refl
 
-module _ {img : List ℕ} {d : TableRef} (x : ReadingBy img d) (k : List ℕ) (page : ℕ) (h : TargetIn img d k page) (a : Sought) (f : AboveOn img page d.sort k a) where
+module _ {img : List ℕ} {d : TableRef} (x : ReadingBy img d) (k : List ℕ) (page : ℕ) (h : TargetIn img d k page) (a : Maybe Extent) (f : AboveOn img page d.sort k a) where
   abbrev t : Reading img d.root
   t = x.of
 
@@ -75,14 +75,14 @@ module _ {img : List ℕ} {d : TableRef} (x : ReadingBy img d) (k : List ℕ) (p
   here = said-target x k page h (λ r es. Answered img (above r k es) a) f.is
 
   -- it is in the target span
-  pub next_here : (n : _) (m : ℕ) → a ≡ Found n m → Answered img (above t.rule k (entries_of t.table)) a
-  next_here n m e =
-      let v = here.found n m e in
+  pub next_here : (x : Extent) → a ≡ Some x → Answered img (above t.rule k (entries_of t.table)) (Some x)
+  next_here x e =
+      let v = here.found x e in
       let same : or_then (above t.rule k (span_at t.table (place t k)).entries) (next_span_key (drop (suc (place t k)) (spans_here t)))
       ≡ above t.rule k (span_at t.table (place t k)).entries = rw v.1 in
-      answer-as (above-target t k ∙ same) here
+      subst (λ (r : Maybe Extent). Answered img (above t.rule k (entries_of t.table)) r) e (answer-as (above-target t k ∙ same) here)
 
-  module _ (e : a ≡ Missing) (next : ℕ) (is : next ≡ be32 (pg img page) 12) where
+  module _ (e : a ≡ None) (next : ℕ) (is : next ≡ be32 (pg img page) 12) where
     abbrev behind : ℕ
     behind = suc (place t k)
 
@@ -103,7 +103,7 @@ module _ {img : List ℕ} {d : TableRef} (x : ReadingBy img d) (k : List ℕ) (p
     no_span l = drop_of_length-le (spans_here t) {i = behind} (omega (arith, length-spans t, l))
 
     -- there is no span behind
-    pub next-none : next ≡ 0 → Answered img (above t.rule k (entries_of t.table)) Missing
+    pub next-none : next ≡ 0 → Answered img (above t.rule k (entries_of t.table)) None
     next-none z =
         by_cases (dec_lt behind (length (columns t.table)))
         (λ l. absurd (let x : SpanOn img next = reading-span t behind l next (page-behind l) in omega (arith, z, x.there.borne.1.0.low, x.at)))
@@ -121,7 +121,7 @@ module _ {img : List ℕ} {d : TableRef} (x : ReadingBy img d) (k : List ℕ) (p
       pub next-there : EntryThere img (record { page = next; offset = 20 })
       next-there = first-there t behind within next (page-behind within) filled
 
-      pub next-is : (b : Sought) → KeyOf img (record { page = next; offset = 20 }) b → Answered img (above t.rule k (entries_of t.table)) b
+      pub next-is : (b : Extent) → KeyOf img (record { page = next; offset = 20 }) b → Answered img (above t.rule k (entries_of t.table)) (Some b)
       next-is b q =
           answer-as (above-behind ∙ ap next_span_key (span-behind within) ∙ sym (above-empty t.rule (span_at t.table behind).entries))
           (first-at t behind within next (page-behind within) filled b q)

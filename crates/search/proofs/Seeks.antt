@@ -26,8 +26,8 @@ use Rattle.entries.specs.declared.place.Place.{Place}
 use Rattle.entries.specs.declared.place.Sizes.{Sizes}
 use Rattle.entries.specs.Places.{Moved, Measured}
 use Rattle.entries.specs.Sorted.{ComparedAs}
-use Rattle.search.specs.declared.span.Sought.{Sought}
-use Rattle.search.specs.declared.span.Sought.TheVariants.{Found, Missing}
+use Rattle.std.specs.Prelude.{Option as Maybe, Some, None}
+use Rattle.search.specs.declared.span.Extent.{Extent}
 use Rattle.search.specs.declared.span.Stop.{Stop}
 use Rattle.search.specs.declared.span.Stop.TheVariants.{Here, Above, End}
 use Rattle.search.specs.Spans.{Sorts, SpanOn, BytesAt, Along, EntryThere, EntryAt, Answered, Before, Met, Passed, Ended, Stopped, KeyOf}
@@ -36,17 +36,17 @@ use Rattle.search.proofs.Entries.{bytes-key, along-entry, span-along}
 
 -- ---- Answers
 
-pub answer-found : {img : List ℕ} {o : Option (List ℕ)} {at : Place} {n : ℕ} (v : List ℕ) → o ≡ some v → BytesAt img at n v → Answered img o (Found at n)
-answer-found {img} {o} {at} {n} v e b =
+pub answer-found : {img : List ℕ} {o : Option (List ℕ)} {x : Extent} (v : List ℕ) → o ≡ some v → BytesAt img x.at x.length v → Answered img o (Some x)
+answer-found {img} {o} {x} v e b =
     record {
-      found = λ p m q. (v, e, let x : at ≡ p = cc in let y : n ≡ m = cc in subst (λ (i : ℕ). BytesAt img p i v) y (subst (λ (i : Place). BytesAt img i n v) x b));
+      found = λ y q. (v, e, let same : x ≡ y = cc in subst (λ (i : Extent). BytesAt img i.at i.length v) same b);
       missing = λ q. absurd (let z : ◌≡◌ {A = ℕ} 0 1 = cc in omega arith);
     }
 
-pub answer-none : {img : List ℕ} {o : Option (List ℕ)} → o ≡ none → Answered img o Missing
-answer-none e = record { found = λ p m q. absurd (let z : ◌≡◌ {A = ℕ} 0 1 = cc in omega arith); missing = λ q. e }
+pub answer-none : {img : List ℕ} {o : Option (List ℕ)} → o ≡ none → Answered img o None
+answer-none e = record { found = λ y q. absurd (let z : ◌≡◌ {A = ℕ} 0 1 = cc in omega arith); missing = λ q. e }
 
-pub answer-as : {img : List ℕ} {o u : Option (List ℕ)} {r : Sought} → u ≡ o → Answered img o r → Answered img u r
+pub answer-as : {img : List ℕ} {o u : Option (List ℕ)} {r : Maybe Extent} → u ≡ o → Answered img o r → Answered img u r
 answer-as {img} {r = r} e a = subst (λ (x : Option (List ℕ)). Answered img x r) (sym e) a
 
 stop-here : {img : List ℕ} {r : KeyRule} {k : List ℕ} {es : List Entry} {g : Sizes} {left : ℕ} → Met img r k es g left → Stopped img r k es (Here g left)
@@ -247,29 +247,31 @@ module _ {img : List ℕ} {r : KeyRule} {k : List ℕ} {es : List Entry} {at : P
 -- ---- find_entry and key_above, from where seek stopped
 
 module _ {img : List ℕ} {r : KeyRule} {k : List ℕ} {es : List Entry} {s : Stop} (h : Stopped img r k es s) where
-  pub found_here : (g : Sizes) (left : ℕ) → s ≡ Here g left → (p : Place) → Moved img g.after g.key p → Answered img (find k es) (Found p g.value)
+  pub found_here : (g : Sizes) (left : ℕ) → s ≡ Here g left → (p : Place) → Moved img g.after g.key p → Answered img (find k es) (Some (record { at = p; length = g.value }))
   found_here g left e p t = let m : Met img r k es g left = h.met g left e in answer-found m.entry.value m.found (m.at.value p t)
 
-  pub found-above : (g : Sizes) (left : ℕ) → s ≡ Above g left → Answered img (find k es) Missing
-  found-above g left e = answer-none (h.passed g left e).found
+  pub found-not-here : ((g : Sizes) (left : ℕ) → s ≡ Here g left → ⊥) → Answered img (find k es) None
+  found-not-here other = go s refl
+    where
+      go : (t : Stop) → s ≡ t → Answered img (find k es) None
+      go (Here g left) e = absurd (other g left e)
+      go (Above g left) e = answer-none (h.passed g left e).found
+      go End e = answer-none (h.end e).found
 
-  pub found-end : s ≡ End → Answered img (find k es) Missing
-  found-end e = answer-none (h.end e).found
-
-  pub next-above : (g : Sizes) (left : ℕ) → s ≡ Above g left → Answered img (above r k es) (Found g.after g.key)
+  pub next-above : (g : Sizes) (left : ℕ) → s ≡ Above g left → Answered img (above r k es) (Some (record { at = g.after; length = g.key }))
   next-above g left e = let m : Passed img r k es g left = h.passed g left e in answer-found m.entry.key m.next m.at.key
 
-  pub next-end : s ≡ End → Answered img (above r k es) Missing
+  pub next-end : s ≡ End → Answered img (above r k es) None
   next-end e = answer-none (h.end e).next
 
   module _ (g : Sizes) (left : ℕ) (e : s ≡ Here g left) where
     met : Met img r k es g left
     met = h.met g left e
 
-    pub next_last : left ≡ 1 → Answered img (above r k es) Missing
+    pub next_last : left ≡ 1 → Answered img (above r k es) None
     next_last l = go met.more met.count met.next
       where
-        go : (more : List Entry) → left ≡ 1 + length more → above r k es ≡ above r [] more → Answered img (above r k es) Missing
+        go : (more : List Entry) → left ≡ 1 + length more → above r k es ≡ above r [] more → Answered img (above r k es) None
         go [] c n = answer-none n
         go (y ∷ more) c n = absurd (omega arith)
 
@@ -289,13 +291,13 @@ module _ {img : List ℕ} {r : KeyRule} {k : List ℕ} {es : List Entry} {s : St
       pub next-there : EntryThere img p
       next-there = (after l p t).there
 
-      pub next-is : (a : Sought) → KeyOf img p a → Answered img (above r k es) a
+      pub next-is : (a : Extent) → KeyOf img p a → Answered img (above r k es) (Some a)
       unfolding after next-there
       next-is a q = answer-as (after l p t).next (q.is next-there)
 
 -- ---- key_of
 
-pub key-of-is : {img : List ℕ} {at : Place} (g : Sizes) → Measured img at g → KeyOf img at (Found g.after g.key)
+pub key-of-is : {img : List ℕ} {at : Place} (g : Sizes) → Measured img at g → KeyOf img at (record { at = g.after; length = g.key })
 key-of-is g m = record { is = λ x. answer-found x.first.key refl (along-entry x.along g m).key }
 
 -- ---- begins_past

@@ -19,7 +19,8 @@ use Rattle.laws.proofs.Targets.{Target, target_is, find_at}
 use Rattle.pages.specs.Places.{Inside}
 use Rattle.order.specs.declared.sort.Sort.{Sort}
 use Rattle.entries.specs.Places.{IsPage}
-use Rattle.search.specs.declared.span.Sought.{Sought}
+use Rattle.std.specs.Prelude.{Option as Maybe, Some}
+use Rattle.search.specs.declared.span.Extent.{Extent}
 use Rattle.search.specs.declared.table.TableRef.{TableRef}
 use Rattle.search.specs.Spans.{Borne, SpanOn, SpanBy, FilledBy, EntryThere, Answered, FoundOn, KeyOf}
 use Rattle.search.specs.Tables.{Reading, ReadingBy, TargetIn}
@@ -115,7 +116,7 @@ module _ {img : List ℕ} {root : ℕ} (t : Reading img root) where
         unfolding reading-span
         first-there = span-entry reading-span z
 
-        pub first-at : (a : Sought) → KeyOf img (record { page = page; offset = 20 }) a → Answered img (above t.rule [] (span_at t.table i).entries) a
+        pub first-at : (a : Extent) → KeyOf img (record { page = page; offset = 20 }) a → Answered img (above t.rule [] (span_at t.table i).entries) (Some a)
         unfolding reading-span first-there
         first-at a f = answer-as (span-first reading-span z) (f.is first-there)
 
@@ -151,6 +152,6 @@ module _ {img : List ℕ} {d : TableRef} (x : ReadingBy img d) (k : List ℕ) (p
       → F x.of.rule (span_at x.of.table (place x.of k)).entries
   said-target = said_at x.of (place x.of k) (at_target x.of k).place page (h.is x) x.by
 
-  pub find-in : (a : Sought) → FoundOn img page d.sort k a → Answered img (find k (entries_of x.of.table)) a
+  pub find-in : (a : Maybe Extent) → FoundOn img page d.sort k a → Answered img (find k (entries_of x.of.table)) a
   find-in a f =
       answer-as (find_at x.of.rule (ordered x.of) k x.of.table (place x.of k) (at_target x.of k)) (said-target (λ r es. Answered img (find k es) a) f.is)

@@ -1,5 +1,6 @@
 -- A span's entries as the code reads them: from place to place, in step with the list.
 use Rattle.std.specs.Prelude.{ℕ, ◌+◌, ◌*◌, ◌≤◌, ◌<◌, ◌≡◌, Bool, not, List, [], ◌∷◌, ◌++◌, length, take, drop, T}
+use Rattle.std.specs.Prelude.{Option as Maybe, Some, None}
 use Rattle.std.proofs.Math.Option.{Option, none, some}
 use Rattle.blockfile.specs.Bytes.{pg, be16, Every}
 use Rattle.blockfile.specs.Layout.{Entry, entries_end, reached}
@@ -13,8 +14,7 @@ use Rattle.entries.specs.declared.place.Place.{Place}
 use Rattle.entries.specs.declared.place.Sizes.{Sizes}
 use Rattle.entries.specs.Places.{IsPage, Rest, Enough, Moved}
 use Rattle.search.specs.declared.span.Bound.{Bound}
-use Rattle.search.specs.declared.span.Sought.{Sought}
-use Rattle.search.specs.declared.span.Sought.TheVariants.{Found, Missing}
+use Rattle.search.specs.declared.span.Extent.{Extent}
 use Rattle.search.specs.declared.span.Stop.{Stop}
 use Rattle.search.specs.declared.span.Stop.TheVariants.{Here, Above, End}
 
@@ -93,10 +93,10 @@ pub record EntryAt (img : List ℕ) (g : Sizes) (e : Entry) (more : List Entry) 
 
 -- ---- Answers
 
--- r says what the option is: the place and number of its bytes, or that there are none
-pub record Answered (img : List ℕ) (o : Option (List ℕ)) (r : Sought) : Type 0 where
-  pub found : (at : Place) (n : ℕ) → r ≡ Found at n → (v : List ℕ) × (o ≡ some v) × BytesAt img at n v
-  pub missing : r ≡ Missing → o ≡ none
+-- r says what the option is: where its bytes are and how many, or that there are none
+pub record Answered (img : List ℕ) (o : Option (List ℕ)) (r : Maybe Extent) : Type 0 where
+  pub found : (e : Extent) → r ≡ Some e → (v : List ℕ) × (o ≡ some v) × BytesAt img e.at e.length v
+  pub missing : r ≡ None → o ≡ none
 
 -- es are entries with keys below k, and then the entries from the place of the search on
 pub record Before (r : KeyRule) (k : List ℕ) (es rest : List Entry) : Type 0 where
@@ -143,15 +143,15 @@ pub record Stopped (img : List ℕ) (r : KeyRule) (k : List ℕ) (es : List Entr
 pub record StoppedOn (img : List ℕ) (page : ℕ) (s : Sort) (k : List ℕ) (r : Stop) : Type 0 where
   pub is : (x : SpanBy img page s) → Stopped img x.on.rule k x.on.linked.span.entries r
 
-pub record FoundOn (img : List ℕ) (page : ℕ) (s : Sort) (k : List ℕ) (r : Sought) : Type 0 where
+pub record FoundOn (img : List ℕ) (page : ℕ) (s : Sort) (k : List ℕ) (r : Maybe Extent) : Type 0 where
   pub is : (x : SpanBy img page s) → Answered img (find k x.on.linked.span.entries) r
 
-pub record AboveOn (img : List ℕ) (page : ℕ) (s : Sort) (k : List ℕ) (r : Sought) : Type 0 where
+pub record AboveOn (img : List ℕ) (page : ℕ) (s : Sort) (k : List ℕ) (r : Maybe Extent) : Type 0 where
   pub is : (x : SpanBy img page s) → Answered img (above x.on.rule k x.on.linked.span.entries) r
 
 pub record OverOn (img : List ℕ) (page : ℕ) (b : Bound) (k : List ℕ) (r : Bool) : Type 0 where
   pub is : (x : SpanBy img page b.sort) → r ≡ not (begun b.strict x.on.rule k x.on.linked.span.entries)
 
 -- the key of the entry at the place
-pub record KeyOf (img : List ℕ) (at : Place) (r : Sought) : Type 0 where
-  pub is : (x : EntryThere img at) → Answered img (some x.first.key) r
+pub record KeyOf (img : List ℕ) (at : Place) (e : Extent) : Type 0 where
+  pub is : (x : EntryThere img at) → Answered img (some x.first.key) (Some e)

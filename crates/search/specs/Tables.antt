@@ -1,5 +1,5 @@
 -- What reading a table of an image needs, and what the functions on tables answer.
-use Rattle.std.specs.Prelude.{ℕ, ◌≤◌, ◌≡◌, List, length}
+use Rattle.std.specs.Prelude.{ℕ, ◌≤◌, ◌≡◌, List, length, Option, Some, None}
 use Rattle.std.proofs.Math.Option.{none, some}
 use Rattle.blockfile.specs.Bytes.{Every}
 use Rattle.blockfile.specs.Layout.{Table, Layout, entries_of}
@@ -7,10 +7,8 @@ use Rattle.blockfile.specs.Order.{KeyRule, find, above}
 use Rattle.blockfile.specs.WellFormed.{table_pieces, TableOk, WellFormed}
 use Rattle.blockfile.specs.Put.{target, span_at}
 use Rattle.order.specs.declared.sort.Sort.TheVariants.{Bytes}
-use Rattle.search.specs.declared.span.Sought.{Sought}
+use Rattle.search.specs.declared.span.Extent.{Extent}
 use Rattle.search.specs.declared.table.TableRef.{TableRef}
-use Rattle.search.specs.declared.table.Named.{Named}
-use Rattle.search.specs.declared.table.Named.TheVariants.{Root, Unknown}
 use Rattle.search.specs.Spans.{Sorts, Borne, Answered}
 
 -- a table that keeps its rules, on pages of the image that bear it
@@ -43,17 +41,17 @@ pub record TargetIn (img : List ℕ) (t : TableRef) (k : List ℕ) (r : ℕ) : T
   pub is : (x : ReadingBy img t) → r ≡ (span_at x.of.table (target x.of.rule k x.of.table)).page
 
 -- the value under the key
-pub record FoundIn (img : List ℕ) (t : TableRef) (k : List ℕ) (r : Sought) : Type 0 where
+pub record FoundIn (img : List ℕ) (t : TableRef) (k : List ℕ) (r : Option Extent) : Type 0 where
   pub is : (x : ReadingBy img t) → Answered img (find k (entries_of x.of.table)) r
 
 -- the smallest key above the one asked; the smallest of all for the empty one
-pub record AboveIn (img : List ℕ) (t : TableRef) (k : List ℕ) (r : Sought) : Type 0 where
+pub record AboveIn (img : List ℕ) (t : TableRef) (k : List ℕ) (r : Option Extent) : Type 0 where
   pub is : (x : ReadingBy img t) → Answered img (above x.of.rule k (entries_of x.of.table)) r
 
 -- the skip-list page of the table of this name
-pub record NamedIn (L : Layout) (name : List ℕ) (r : Named) : Type 0 where
-  pub root : (page : ℕ) → r ≡ Root page → (t : Table) × (find name L.tables ≡ some t) × (t.root ≡ page)
-  pub unknown : r ≡ Unknown → find name L.tables ≡ none
+pub record NamedIn (L : Layout) (name : List ℕ) (r : Option ℕ) : Type 0 where
+  pub root : (page : ℕ) → r ≡ Some page → (t : Table) × (find name L.tables ≡ some t) × (t.root ≡ page)
+  pub unknown : r ≡ None → find name L.tables ≡ none
 
-pub record NamedAs (img name : List ℕ) (r : Named) : Type 0 where
+pub record NamedAs (img name : List ℕ) (r : Option ℕ) : Type 0 where
   pub is : (L : Layout) → WellFormed img L → NamedIn L name r

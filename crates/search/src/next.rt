@@ -1,31 +1,27 @@
 // The next key of a table.
 ghost use Rattle.search.specs.Tables.{ReadingBy, AboveIn};
 
-use crate::span::{Sought, key_above, key_of};
+use crate::span::{Extent, key_above, key_of};
 use crate::table::{TableRef, find_by_towers};
 use entries::place::Place;
 use pages::read::get32;
 
 // The smallest key above the given one in the table; of all keys, for the empty one.
-pub fn next_key(image: &[u8], table: TableRef, key: &[u8]) -> Sought
+pub fn next_key(image: &[u8], table: TableRef, key: &[u8]) -> Option<Extent>
     requires { ReadingBy image.now table }
     ensures { AboveIn image.now table key.now result }
 {
     let page = find_by_towers(image, table, key);
-    let sort = table.sort;
-    let here = key_above(image, page, sort, key);
-    if let Sought::Found(_, _) = here {
-        return here;
+    if let Some(here) = key_above(image, page, table.sort, key) {
+        return Some(here);
     }
     let next = get32(image, page, 12);
     if next == 0 {
-        return Sought::Missing;
+        return None;
     }
-    key_of(
-        image,
-        Place {
-            page: next,
-            offset: 20,
-        },
-    )
+    let first = Place {
+        page: next,
+        offset: 20,
+    };
+    Some(key_of(image, first))
 }

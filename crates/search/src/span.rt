@@ -9,11 +9,11 @@ use order::sort::Sort;
 use pages::read::get16;
 use reader::place_after;
 
-// Where the bytes sought are and how many, if they are there.
+// Bytes of a span, a key or a value: the place where they begin, and how many.
 #[derive(Clone, Copy)]
-pub enum Sought {
-    Found(Place, usize),
-    Missing,
+pub struct Extent {
+    pub at: Place,
+    pub length: usize,
 }
 
 // Where a search along the entries stopped.
@@ -55,34 +55,33 @@ pub fn seek(image: &[u8], page: usize, sort: Sort, key: &[u8]) -> Stop
 }
 
 // The value under the key in the span on the page.
-pub fn find_entry(image: &[u8], page: usize, sort: Sort, key: &[u8]) -> Sought
+pub fn find_entry(image: &[u8], page: usize, sort: Sort, key: &[u8]) -> Option<Extent>
     requires { SpanBy image.now page sort }
     ensures { FoundOn image.now page sort key.now result }
 {
-    let stop = seek(image, page, sort, key);
-    match stop {
-        Stop::Here(g, _) => {
-            let first = g.after;
-            let value = place_after(image, first, g.key);
-            Sought::Found(value, g.value)
-        }
-        Stop::Above(_, _) => Sought::Missing,
-        Stop::End => Sought::Missing,
-    }
+    let Stop::Here(g, _) = seek(image, page, sort, key) else {
+        return None;
+    };
+    Some(Extent {
+        at: place_after(image, g.after, g.key),
+        length: g.value,
+    })
 }
 
 // The key of the entry here.
-pub fn key_of(image: &[u8], at: Place) -> Sought
+pub fn key_of(image: &[u8], at: Place) -> Extent
     requires { EntryThere image.now at }
     ensures { KeyOf image.now at result }
 {
     let g = lengths(image, at);
-    let first = g.after;
-    Sought::Found(first, g.key)
+    Extent {
+        at: g.after,
+        length: g.key,
+    }
 }
 
 // The smallest key above the given one in the span on the page.
-pub fn key_above(image: &[u8], page: usize, sort: Sort, key: &[u8]) -> Sought
+pub fn key_above(image: &[u8], page: usize, sort: Sort, key: &[u8]) -> Option<Extent>
     requires { SpanBy image.now page sort }
     ensures { AboveOn image.now page sort key.now result }
 {
@@ -90,17 +89,16 @@ pub fn key_above(image: &[u8], page: usize, sort: Sort, key: &[u8]) -> Sought
     match stop {
         Stop::Here(g, left) => {
             if left == 1 {
-                return Sought::Missing;
+                return None;
             }
-            let first = g.after;
-            let next = place_after(image, first, g.key + g.value);
-            key_of(image, next)
+            let next = place_after(image, g.after, g.key + g.value);
+            Some(key_of(image, next))
         }
-        Stop::Above(g, _) => {
-            let first = g.after;
-            Sought::Found(first, g.key)
-        }
-        Stop::End => Sought::Missing,
+        Stop::Above(g, _) => Some(Extent {
+            at: g.after,
+            length: g.key,
+        }),
+        Stop::End => None,
     }
 }
 

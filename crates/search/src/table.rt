@@ -6,7 +6,7 @@ ghost use Rattle.search.specs.Tables.{ReadingBy, TargetIn, FoundIn, NamedAs};
 ghost use Rattle.search.specs.Paths.{LowestIn, start_on};
 
 use crate::path::descend;
-use crate::span::{Bound, Sought, begins_past, find_entry};
+use crate::span::{Bound, Extent, begins_past, find_entry};
 use entries::copy::number;
 use order::sort::Sort;
 use pages::read::get32;
@@ -19,13 +19,6 @@ pub const METAINDEX: usize = 2;
 pub struct TableRef {
     pub root: usize,
     pub sort: Sort,
-}
-
-// The skip-list page of a table, if there is a table of the name.
-#[derive(Clone, Copy)]
-pub enum Named {
-    Root(usize),
-    Unknown,
 }
 
 // The span of the lowest tower of a path; the first span for a path without levels, where `lowest` is 0.
@@ -81,17 +74,16 @@ pub fn find_by_towers(image: &[u8], table: TableRef, key: &[u8]) -> usize
 }
 
 // The value under the key in the table.
-pub fn find(image: &[u8], table: TableRef, key: &[u8]) -> Sought
+pub fn find(image: &[u8], table: TableRef, key: &[u8]) -> Option<Extent>
     requires { ReadingBy image.now table }
     ensures { FoundIn image.now table key.now result }
 {
     let page = find_by_towers(image, table, key);
-    let sort = table.sort;
-    find_entry(image, page, sort, key)
+    find_entry(image, page, table.sort, key)
 }
 
-// The skip-list page of the table of this name.
-pub fn find_table(image: &[u8], name: &[u8]) -> Named
+// The skip-list page of the table of this name, if there is one.
+pub fn find_table(image: &[u8], name: &[u8]) -> Option<usize>
     requires { Accepted image.now }
     ensures { NamedAs image.now name.now result }
 {
@@ -99,8 +91,6 @@ pub fn find_table(image: &[u8], name: &[u8]) -> Named
         root: METAINDEX,
         sort: Sort::Bytes,
     };
-    let Sought::Found(at, _) = find(image, table, name) else {
-        return Named::Unknown;
-    };
-    Named::Root(number(image, at))
+    let value = find(image, table, name)?;
+    Some(number(image, value.at))
 }

@@ -2,10 +2,10 @@ use mathlib.Core.Path.{sym, ◌∙◌}
 use Rattle.blockfile.specs.Order.{name_rule}
 use Rattle.refusals.proofs.legal.is_name.Goals as goal
 
-pub returns-then-not-is_within : goal.returns-then-not-is_within
+pub returns-then-is_within : goal.returns-then-is_within
 unfolding name_rule
-returns-then-not-is_within c = simp (sym c.is_within.ensures ∙ c.if-not-is_within.true)
+returns-then-is_within c = simp (sym c.is_within.ensures ∙ c.if-is_within.true, c.printable_bytes.ensures)
 
-pub returns : goal.returns
+pub returns-else-is_within : goal.returns-else-is_within
 unfolding name_rule
-returns c = simp (sym c.is_within.ensures ∙ c.if-not-is_within.false, c.printable_bytes.ensures)
+returns-else-is_within c = simp (c.is_within.ensures, sym c.is_within.ensures ∙ c.if-is_within.false)
