@@ -4,6 +4,7 @@ use mathlib.Core.Path.{◌≡◌, refl}
 use mathlib.Core.List.{List, []}
 use mathlib.Core.Option.{none}
 use mathlib.Core.Bool.{true, false}
+use Rattle.std.specs.Prelude.{Option}
 use Rattle.blockfile.specs.declared.Refusal.TheVariants.{NameOrKey, TableExists, NoRoom}
 use Rattle.blockfile.specs.declared.Wrote.TheVariants.{Refused as NotWrote}
 use Rattle.blockfile.specs.Order.{name_rule}
@@ -15,7 +16,6 @@ use Rattle.laws.proofs.Preserves.{few-after}
 use Rattle.search.specs.declared.table.Named.{Named}
 use Rattle.search.specs.declared.table.Named.TheVariants.{Root, Unknown}
 use Rattle.search.specs.Tables.{NamedAs}
-use Rattle.edit.specs.declared.apply.Applied.{Applied}
 use Rattle.create.specs.Creates.{NoTable, CreateReady, Created}
 use Rattle.change.specs.Change.{Lending, Changed}
 use Rattle.change.proofs.Settles.{Tried}
@@ -44,7 +44,7 @@ module _ {img s : List ℕ} {free : ℕ} (lent : Lending img s free) (name : Lis
       unfolding refused
       passed = rw (good, no_table_lem lent.layout name none_named.absent)
 
-      pub create-tried : {a : Applied} {mid : List ℕ} → Created img free name a mid → Tried (create name) img lent.layout NoRoom a mid
+      pub create-tried : {a : Option ℕ} {mid : List ℕ} → Created img free name a mid → Tried (create name) img lent.layout NoRoom a mid
       unfolding outcome_on
       create-tried d =
           let o = d.is lent.layout none_named in

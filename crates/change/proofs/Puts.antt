@@ -7,6 +7,7 @@ use mathlib.Core.Bool.{Bool, true, false, not}
 use borrow.Author.Tests.{ltb-false, not-true}
 use lib.ListN.{length}
 use lib.Dec.{ltb}
+use Rattle.std.specs.Prelude.{Option}
 use Rattle.blockfile.specs.declared.Refusal.{Refusal}
 use Rattle.blockfile.specs.declared.Refusal.TheVariants.{NoRoom}
 use Rattle.blockfile.specs.declared.Wrote.TheVariants.{Refused as NotWrote}
@@ -19,7 +20,6 @@ use Rattle.laws.proofs.Ledgers.{on-table}
 use Rattle.laws.proofs.Preserves.{few-after}
 use Rattle.order.specs.declared.sort.Sort.{Sort}
 use Rattle.search.specs.declared.table.TableRef.{TableRef}
-use Rattle.edit.specs.declared.apply.Applied.{Applied}
 use Rattle.edit.specs.Puts.{PutReady, PutDone}
 use Rattle.refusals.specs.declared.table.Entered.{Entered}
 use Rattle.refusals.specs.declared.table.Entered.TheVariants.{Refused, Found}
@@ -73,7 +73,7 @@ module _ {name key value : List ℕ} {sort : Sort} {legal short : Bool} (j : Jud
       planned : plan_of lent.layout (put name key value) ≡ some plan
       planned = on-table lent.layout name _ (λ u. put_plan lent.layout name u key value) (found lent n page e).1.found
 
-      pub put-tried : {a : Applied} {mid : List ℕ} → PutDone img table free key value a mid → Tried (put name key value) img lent.layout NoRoom a mid
+      pub put-tried : {a : Option ℕ} {mid : List ℕ} → PutDone img table free key value a mid → Tried (put name key value) img lent.layout NoRoom a mid
       unfolding outcome_on
       put-tried d =
           let at = table_at lent n page e j.of_key.sorts in

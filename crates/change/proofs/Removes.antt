@@ -2,8 +2,9 @@
 use Prim.Native.Nat.{ℕ}
 use mathlib.Core.Path.{◌≡◌, refl, ap, sym, ◌∙◌, subst}
 use mathlib.Core.List.{List, [], ◌∷◌}
-use mathlib.Core.Option.{Option, none, some}
+use mathlib.Core.Option.{Option as TextOption, none, some}
 use mathlib.Core.Bool.{Bool, true, false, not}
+use Rattle.std.specs.Prelude.{Option}
 use Rattle.blockfile.specs.declared.Refusal.{Refusal}
 use Rattle.blockfile.specs.declared.Refusal.TheVariants.{NoKey}
 use Rattle.blockfile.specs.declared.Wrote.TheVariants.{Refused as NotWrote}
@@ -19,7 +20,6 @@ use Rattle.laws.proofs.Room.{remove-never-lacks}
 use Rattle.laws.proofs.Preserves.{few-after}
 use Rattle.order.specs.declared.sort.Sort.{Sort}
 use Rattle.search.specs.declared.table.TableRef.{TableRef}
-use Rattle.edit.specs.declared.apply.Applied.{Applied}
 use Rattle.remove.specs.Removes.{RemoveReady, RemoveDone}
 use Rattle.refusals.specs.declared.table.Entered.{Entered}
 use Rattle.refusals.specs.declared.table.Entered.TheVariants.{Refused, Found}
@@ -67,9 +67,9 @@ module _ {name key : List ℕ} {sort : Sort} {legal : Bool} (j : KeyJudged name 
       planned = on-table L name t (λ u. remove_plan L name u key) (found lent n page e).1.found
 
       enough : lacks L (remove_plan L name t key) ≡ false
-      enough = subst (λ (o : Option Plan). lacking L o ≡ false) planned (remove-never-lacks L (layout-ok img L lent.well) name key)
+      enough = subst (λ (o : TextOption Plan). lacking L o ≡ false) planned (remove-never-lacks L (layout-ok img L lent.well) name key)
 
-      pub remove-tried : {a : Applied} {mid : List ℕ} → RemoveDone img table free key a mid → Tried (remove name key) img L NoKey a mid
+      pub remove-tried : {a : Option ℕ} {mid : List ℕ} → RemoveDone img table free key a mid → Tried (remove name key) img L NoKey a mid
       unfolding outcome_on
       remove-tried d =
           let at = table_at lent n page e j.sorts in

@@ -5,6 +5,7 @@ use native.Mathlib.Omega.{arith}
 use mathlib.Core.Path.{◌≡◌, refl, ap, sym, ◌∙◌, subst}
 use mathlib.Core.List.{List, [], ◌∷◌}
 use lib.ListN.{length}
+use Rattle.std.specs.Prelude.{Option, Some, None}
 use Rattle.blockfile.specs.declared.Refusal.{Refusal}
 use Rattle.blockfile.specs.declared.Wrote.{Wrote}
 use Rattle.blockfile.specs.declared.Wrote.TheVariants.{Done, Refused}
@@ -17,8 +18,6 @@ use Rattle.blockfile.specs.Answers.{Outcome, outcome_on}
 use Rattle.blockfile.specs.Calls.{wrote_reply}
 use Rattle.laws.proofs.Writes.{apply-append, length-apply}
 use Rattle.pages.specs.Places.{Inside}
-use Rattle.edit.specs.declared.apply.Applied.{Applied}
-use Rattle.edit.specs.declared.apply.Applied.TheVariants.{Nothing, Left}
 use Rattle.edit.specs.Puts.{CarriedOut}
 use Rattle.change.specs.Change.{Changed, Settleable, Settled}
 
@@ -34,32 +33,32 @@ pub record Planned (op : Op) (img : List ℕ) (L : Layout) (n : ℕ) (mid : List
   pub few : free_count (drawn_by L plan).free ≤ 4096
 
 -- what came of the call: it is refused with f and nothing was changed, or a plan was carried out
-pub record Tried (op : Op) (img : List ℕ) (L : Layout) (f : Refusal) (a : Applied) (mid : List ℕ) : Type 0 where
-  pub undone : a ≡ Nothing → (outcome_on L op 0 ≡ told (Refused f) []) × (mid ≡ img)
-  pub made : (n : ℕ) → a ≡ Left n → Planned op img L n mid
+pub record Tried (op : Op) (img : List ℕ) (L : Layout) (f : Refusal) (a : Option ℕ) (mid : List ℕ) : Type 0 where
+  pub undone : a ≡ None → (outcome_on L op 0 ≡ told (Refused f) []) × (mid ≡ img)
+  pub made : (n : ℕ) → a ≡ Some n → Planned op img L n mid
 
 -- page 1 is there, also after the change
 super-inside : {img : List ℕ} {L : Layout} → WellFormed img L → (mid : List ℕ) → length mid ≡ length img → Inside mid 1 28 4
 super-inside w mid e =
     record { small = omega (arith, w.size, w.pages.1); low = omega arith; high = omega (arith, w.size, w.pages.0); fits = omega arith }
 
-module _ {op : Op} {img : List ℕ} {L : Layout} (w : WellFormed img L) {f : Refusal} {a : Applied} {mid : List ℕ} (t : Tried op img L f a mid) where
+module _ {op : Op} {img : List ℕ} {L : Layout} (w : WellFormed img L) {f : Refusal} {a : Option ℕ} {mid : List ℕ} (t : Tried op img L f a mid) where
   pub settleable : Settleable mid a
   settleable = record { inside = super-inside w mid (same_length a refl); few = λ n e. let k = t.made n e in omega (arith, k.carried.left, k.few) }
     where
-      same_length : (b : Applied) → a ≡ b → length mid ≡ length img
-      same_length Nothing e = ap length (t.undone e).1
-      same_length (Left n) e = let k = t.made n e in ap length k.carried.image ∙ length-apply (changes_of L k.plan) img
+      same_length : (b : Option ℕ) → a ≡ b → length mid ≡ length img
+      same_length None e = ap length (t.undone e).1
+      same_length (Some n) e = let k = t.made n e in ap length k.carried.image ∙ length-apply (changes_of L k.plan) img
 
   pub settled : {r : Wrote} {out : List ℕ} → Settled mid a f r out → Changed op img r out
   unfolding writes_of
   settled {r} {out} s = go a refl s
     where
-      go : (b : Applied) → a ≡ b → Settled mid b f r out → Changed op img r out
-      go Nothing e (z, o) =
+      go : (b : Option ℕ) → a ≡ b → Settled mid b f r out → Changed op img r out
+      go None e (z, o) =
           let k = t.undone e in
           record { layout = L; well = w; writes = []; outcome = k.0 ∙ ap (λ (x : Wrote). told x []) (sym z); image = o ∙ k.1 }
-      go (Left n) e (z, o) =
+      go (Some n) e (z, o) =
           let k = t.made n e in
           let p : Plan = k.plan in
           let kept : List Write = kept_on (free_count (drawn_by L p).free) ∷ [] in
@@ -73,9 +72,9 @@ module _ {op : Op} {img : List ℕ} {L : Layout} (w : WellFormed img L) {f : Ref
 
 -- ---- The ways through `settle`
 
-module _ (img : List ℕ) (a : Applied) (f : Refusal) where
-  pub undone : a ≡ Nothing → Settled img a f (Refused f) img
-  undone e = subst (λ (x : Applied). Settled img x f (Refused f) img) (sym e) (refl, refl)
+module _ (img : List ℕ) (a : Option ℕ) (f : Refusal) where
+  pub undone : a ≡ None → Settled img a f (Refused f) img
+  undone e = subst (λ (x : Option ℕ). Settled img x f (Refused f) img) (sym e) (refl, refl)
 
-  pub counted : (n : ℕ) → a ≡ Left n → (out : List ℕ) → out ≡ apply (kept_on n ∷ []) img → Settled img a f Done out
-  counted n e out o = subst (λ (x : Applied). Settled img x f Done out) (sym e) (refl, o)
+  pub counted : (n : ℕ) → a ≡ Some n → (out : List ℕ) → out ≡ apply (kept_on n ∷ []) img → Settled img a f Done out
+  counted n e out o = subst (λ (x : Option ℕ). Settled img x f Done out) (sym e) (refl, o)

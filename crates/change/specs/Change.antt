@@ -1,5 +1,5 @@
 -- What the calls that write ask for on an accepted image, and what they leave of it.
-use Rattle.std.specs.Prelude.{ℕ, ◌≤◌, ◌≡◌, List, [], ◌∷◌, length}
+use Rattle.std.specs.Prelude.{ℕ, ◌≤◌, ◌≡◌, List, [], ◌∷◌, length, Option, Some, None}
 use Rattle.blockfile.specs.declared.Refusal.{Refusal}
 use Rattle.blockfile.specs.declared.Wrote.{Wrote}
 use Rattle.blockfile.specs.declared.Wrote.TheVariants.{Done, Refused}
@@ -11,8 +11,6 @@ use Rattle.blockfile.specs.Refusals.{Op}
 use Rattle.blockfile.specs.Answers.{outcome_on}
 use Rattle.blockfile.specs.Calls.{wrote_reply}
 use Rattle.pages.specs.Places.{Inside}
-use Rattle.edit.specs.declared.apply.Applied.{Applied}
-use Rattle.edit.specs.declared.apply.Applied.TheVariants.{Nothing, Left}
 
 -- the image is well-formed and has this number of free pages; the scratch is as long as it
 pub record Lending (img scratch : List ℕ) (free : ℕ) : Type 0 where
@@ -32,11 +30,11 @@ pub record Changed (op : Op) (img : List ℕ) (r : Wrote) (out : List ℕ) : Typ
 -- ---- How a call ends whose change was tried
 
 -- page 1 is there, and no more pages are left than an image has
-pub record Settleable (img : List ℕ) (a : Applied) : Type 0 where
+pub record Settleable (img : List ℕ) (a : Option ℕ) : Type 0 where
   pub inside : Inside img 1 28 4
-  pub few : (n : ℕ) → a ≡ Left n → n ≤ 4096
+  pub few : (n : ℕ) → a ≡ Some n → n ≤ 4096
 
 -- where nothing was changed the call is refused; else it is done, and the count of the pages that are left is kept
-abbrev pub Settled : (img : List ℕ) → Applied → Refusal → Wrote → (out : List ℕ) → Type 0
-Settled img Nothing f r out = (r ≡ Refused f) × (out ≡ img)
-Settled img (Left n) f r out = (r ≡ Done) × (out ≡ apply (kept_on n ∷ []) img)
+abbrev pub Settled : (img : List ℕ) → Option ℕ → Refusal → Wrote → (out : List ℕ) → Type 0
+Settled img None f r out = (r ≡ Refused f) × (out ≡ img)
+Settled img (Some n) f r out = (r ≡ Done) × (out ≡ apply (kept_on n ∷ []) img)

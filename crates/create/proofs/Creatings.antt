@@ -5,6 +5,7 @@ use mathlib.Core.Path.{sym, subst}
 use mathlib.Core.Bool.{false}
 use mathlib.Core.List.{List}
 use lib.ListN.{length}
+use Rattle.std.specs.Prelude.{Option}
 use Rattle.blockfile.specs.Layout.{Entry, Layout, columns}
 use Rattle.blockfile.specs.Order.{name_rule}
 use Rattle.blockfile.specs.Put.{target, span_at}
@@ -21,7 +22,6 @@ use Rattle.search.proofs.Tables.{target-span, said-target}
 use Rattle.links.proofs.Leading.{path-target}
 use Rattle.stage.specs.declared.change.Spot.{Spot}
 use Rattle.stage.specs.Changes.{Spotted, SpottedOn}
-use Rattle.edit.specs.declared.apply.Applied.{Applied}
 use Rattle.edit.proofs.Stands.{meta-standing}
 use Rattle.edit.proofs.Puttings.{put_at}
 use Rattle.create.specs.Creates.{NoTable, Enters, EnterReady, Entered, CreateReady, Created}
@@ -67,5 +67,5 @@ module _ {img b : List ℕ} {free : ℕ} {name : List ℕ} (h : CreateReady img 
   enter-ready p s g = record { layout = h.layout; enters = enters h.is p page f s g; allowed = h.allowed; lent = h.lent }
 
 pub created : {img : List ℕ} {free : ℕ} {name : List ℕ} {path : Path} → PathIn img metaindex name false path → (page : ℕ) → TargetIn img metaindex name page
-    → (s : Spot) → SpottedOn img page Bytes name s → (r : Applied) (out : List ℕ) → Entered img page free (put_at s) name path.pages r out → Created img free name r out
+    → (s : Spot) → SpottedOn img page Bytes name s → (r : Option ℕ) (out : List ℕ) → Entered img page free (put_at s) name path.pages r out → Created img free name r out
 created p page f s g r out w = record { is = λ L a. w.is L (enters a p page f s g) }

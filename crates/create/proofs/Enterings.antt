@@ -7,6 +7,8 @@ use mathlib.Core.Option.{none, map}
 use lib.ListN.{length, get_or, replicate}
 use lib.Seq.{sets}
 use borrow.Author.Tests.{le-ltb, lt-ltb}
+use Rattle.std.specs.Prelude.{Some, None}
+use Rattle.std.proofs.lemmas.Option.{none-some}
 use Rattle.blockfile.specs.Bytes.{Write, word32, apply}
 use Rattle.blockfile.specs.Layout.{Entry, Table, Layout, entries_of, free_count}
 use Rattle.blockfile.specs.Order.{name_rule, find, insert}
@@ -26,7 +28,6 @@ use Rattle.laws.proofs.Fitting.{names-short}
 use Rattle.pages.specs.Taking.{Ahead, TakenAfter}
 use Rattle.draw.proofs.Hands.{shown}
 use Rattle.stage.specs.declared.change.Change.{Change}
-use Rattle.edit.specs.declared.apply.Applied.TheVariants.{Nothing, Left}
 use Rattle.edit.specs.declared.plan.Plan.{Plan}
 use Rattle.edit.specs.Shapes.{ContsReady, ContsCounted}
 use Rattle.edit.specs.Makes.{PlanReady, PlanFor}
@@ -36,7 +37,7 @@ use Rattle.edit.specs.Rewrites.{changed, RewriteOf, Carries, CarryOn, CarriedOn}
 use Rattle.edit.proofs.Stands.{besides, in_hand, columns-few}
 use Rattle.edit.proofs.Committing.{plan-total}
 use Rattle.edit.proofs.Rewritings.{table_at, all-few, plan-is, conts-ready, counted, conts-near, span-near, tower-near}
-use Rattle.edit.proofs.Puttings.{told, not_left}
+use Rattle.edit.proofs.Puttings.{told}
 use Rattle.create.specs.declared.table.NewTable.{NewTable}
 use Rattle.create.specs.Tables.{TableFor}
 use Rattle.create.specs.Creates.{Outcome, Enters, EnterReady, Entered}
@@ -105,11 +106,11 @@ module _ {img : List ℕ} {page free : ℕ} {c : Change} {name path : List ℕ} 
       pub all-used : n ≤ wanted_of x
       all-used = omega (arith, old-is, wanted-is, new-wanted name_rule names-ordered L.meta e.none.well.meta_ok name (word32 0) absent)
 
-      pub not-enough : n + free < wanted_of x + 3 → Outcome img L name Nothing img
+      pub not-enough : n + free < wanted_of x + 3 → Outcome img L name None img
       unfolding lacks create_plan
       not-enough l =
           record {
-            done = λ b a. absurd (not_left a);
+            done = λ b a. absurd (none-some _ a);
             refused = λ a. (lt-ltb (length old + free_count L.free) (w + 3) (omega (arith, old-is, wanted-is, e.none.pages)), refl);
           }
 
@@ -184,7 +185,7 @@ module _ {img : List ℕ} {page free : ℕ} {c : Change} {name path : List ℕ} 
                 ap (λ (m : ℕ). draw old m [] L.free) k
 
             pub all_done : 1024 * x.base ≡ length img → (img1 : List ℕ) → CarriedOn img x c name v path img1 → (out : List ℕ)
-                → out ≡ apply (whole_table (empty_table t.most t.root t.span t.head)) img1 → Outcome img L name (Left (n + free - (wanted_of x + 3))) out
+                → out ≡ apply (whole_table (empty_table t.most t.root t.span t.head)) img1 → Outcome img L name (Some (n + free - (wanted_of x + 3))) out
             unfolding lacks changes_of create_plan
             all_done k img1 d out g =
                 record {
@@ -200,7 +201,7 @@ module _ {img : List ℕ} {page free : ℕ} {c : Change} {name path : List ℕ} 
                         })
                         a,
                   );
-                  refused = λ a. absurd (not_left (sym a));
+                  refused = λ a. absurd (none-some _ (sym a));
                 }
               where
                 named : Edited
@@ -250,10 +251,10 @@ stored-word r = refl
 
 module _ {img : List ℕ} {page free : ℕ} {c : Change} {name path : List ℕ} {base : ℕ} {x : Plan} (q : PlanFor img 2 page c (length name + 4) 3 base x)
     (n : ℕ) (m : ContsCounted img page n) where
-  pub no_room : n + free < wanted_of x + 3 → Entered img page free c name path Nothing img
+  pub no_room : n + free < wanted_of x + 3 → Entered img page free c name path None img
   no_room l = record { is = λ L e. not-enough e q n m l }
 
   pub entered : wanted_of x + 3 ≤ n + free → 1024 * x.base ≡ length img → (t : NewTable) → TableFor img (wanted_of x - n) t → (v : List ℕ) → v ≡ word32 t.root
       → (img1 : List ℕ) → CarriedOn img x c name v path img1 → (out : List ℕ) → out ≡ apply (whole_table (empty_table t.most t.root t.span t.head)) img1
-      → Entered img page free c name path (Left (n + free - (wanted_of x + 3))) out
+      → Entered img page free c name path (Some (n + free - (wanted_of x + 3))) out
   entered l k t f v s img1 d out g = record { is = λ L e. all_done e q n m l t f v s k img1 d out g }

@@ -1,5 +1,5 @@
 -- What create asks for, and what it leaves.
-use Rattle.std.specs.Prelude.{ℕ, suc, ◌≡◌, true, false, List, length, T}
+use Rattle.std.specs.Prelude.{ℕ, suc, ◌≡◌, true, false, List, length, T, Option, Some, None}
 use Rattle.std.proofs.Math.Option.{none}
 use Rattle.blockfile.specs.Layout.{Layout, free_count}
 use Rattle.blockfile.specs.Order.{name_rule, find, insert}
@@ -9,8 +9,6 @@ use Rattle.blockfile.specs.Put.{target, span_at}
 use Rattle.blockfile.specs.Create.{create_plan}
 use Rattle.links.specs.Levels.{PathAt}
 use Rattle.stage.specs.declared.change.Change.{Change}
-use Rattle.edit.specs.declared.apply.Applied.{Applied}
-use Rattle.edit.specs.declared.apply.Applied.TheVariants.{Nothing, Left}
 use Rattle.edit.specs.Rewrites.{changed, RewriteOf}
 use Rattle.edit.specs.Puts.{CarriedOut}
 
@@ -21,9 +19,9 @@ pub record NoTable (img : List ℕ) (free : ℕ) (L : Layout) (name : List ℕ) 
   pub pages : free_count L.free ≡ free
 
 -- with room the text's plan is carried out, else the image is as it was
-pub record Outcome (img : List ℕ) (L : Layout) (name : List ℕ) (r : Applied) (out : List ℕ) : Type 0 where
-  pub done : (n : ℕ) → r ≡ Left n → (lacks L (create_plan L name) ≡ false) × CarriedOut img L (create_plan L name) n out
-  pub refused : r ≡ Nothing → (lacks L (create_plan L name) ≡ true) × (out ≡ img)
+pub record Outcome (img : List ℕ) (L : Layout) (name : List ℕ) (r : Option ℕ) (out : List ℕ) : Type 0 where
+  pub done : (n : ℕ) → r ≡ Some n → (lacks L (create_plan L name) ≡ false) × CarriedOut img L (create_plan L name) n out
+  pub refused : r ≡ None → (lacks L (create_plan L name) ≡ true) × (out ≡ img)
 
 -- ---- The name entered
 
@@ -41,7 +39,7 @@ pub record EnterReady (img scratch : List ℕ) (page free : ℕ) (c : Change) (n
   pub allowed : T (name_rule.allowed name)
   pub lent : length scratch ≡ length img
 
-pub record Entered (img : List ℕ) (page free : ℕ) (c : Change) (name path : List ℕ) (r : Applied) (out : List ℕ) : Type 0 where
+pub record Entered (img : List ℕ) (page free : ℕ) (c : Change) (name path : List ℕ) (r : Option ℕ) (out : List ℕ) : Type 0 where
   pub is : (L : Layout) → Enters img page free c name path L → Outcome img L name r out
 
 -- ---- Create
@@ -52,5 +50,5 @@ pub record CreateReady (img scratch : List ℕ) (free : ℕ) (name : List ℕ) :
   pub allowed : T (name_rule.allowed name)
   pub lent : length scratch ≡ length img
 
-pub record Created (img : List ℕ) (free : ℕ) (name : List ℕ) (r : Applied) (out : List ℕ) : Type 0 where
+pub record Created (img : List ℕ) (free : ℕ) (name : List ℕ) (r : Option ℕ) (out : List ℕ) : Type 0 where
   pub is : (L : Layout) → NoTable img free L name → Outcome img L name r out

@@ -4,7 +4,7 @@
 ghost use Rattle.create.specs.Creates.{EnterReady, Entered, CreateReady, Created};
 
 use draw::list::set_number;
-use edit::apply::{Applied, carry_out};
+use edit::apply::carry_out;
 use edit::plan::make_plan;
 use edit::shape::count_conts;
 use order::sort::Sort;
@@ -16,8 +16,8 @@ use table::{new_table, write_table};
 pub mod table;
 
 // Enters the name in the span on `page` of the metaindex, to which the path is, by the change, and writes its table, where `free`
-// pages are free. Answers how many are free after it; without room nothing changes. The table's pages are drawn behind the metaindex's,
-// and a new name leaves no page of its span over: they come from the free list, and are known before anything is written.
+// pages are free. Answers how many are free after it; without room it is none, and nothing changes. The table's pages are drawn behind the
+// metaindex's, and a new name leaves no page of its span over: they come from the free list, and are known before anything is written.
 fn enter(
     image: &mut [u8],
     scratch: &mut [u8],
@@ -26,7 +26,7 @@ fn enter(
     change: Change,
     name: &[u8],
     path: &[u16; 252],
-) -> Applied
+) -> Option<usize>
     requires { EnterReady image.old scratch.old page free change name.now path.now }
     ensures { Entered image.old page free change name.now path.now result image.new }
 {
@@ -37,19 +37,19 @@ fn enter(
     let wanted = plan.wants.conts + plan.wants.span + plan.wants.tower;
     let total = wanted + 3;
     if available < total {
-        return Applied::Nothing;
+        return None;
     }
     let table = new_table(image, wanted - old);
     let mut value = [0u8; 4];
     set_number(&mut value, 0, table.root);
     carry_out(image, scratch, plan, change, name, &value, path);
     write_table(image, table);
-    Applied::Left(available - total)
+    Some(available - total)
 }
 
 // Creates a table of this name, which is allowed and no table has; `free` pages are free. Answers how many are free after it; without
-// room nothing changes. The scratch is as long as the image.
-pub fn create(image: &mut [u8], scratch: &mut [u8], free: usize, name: &[u8]) -> Applied
+// room it is none, and nothing changes. The scratch is as long as the image.
+pub fn create(image: &mut [u8], scratch: &mut [u8], free: usize, name: &[u8]) -> Option<usize>
     requires { CreateReady image.old scratch.old free name.now }
     ensures { Created image.old free name.now result image.new }
 {

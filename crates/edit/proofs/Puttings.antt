@@ -6,6 +6,8 @@ use mathlib.Core.Bool.{true, false}
 use mathlib.Core.List.{List, []}
 use lib.ListN.{length}
 use borrow.Author.Tests.{le-ltb, lt-ltb}
+use Rattle.std.specs.Prelude.{Some, None}
+use Rattle.std.proofs.lemmas.Option.{none-some}
 use Rattle.blockfile.specs.Bytes.{Write, apply}
 use Rattle.blockfile.specs.Layout.{Entry, Table, Layout, columns, free_count}
 use Rattle.blockfile.specs.Order.{key_rule, insert}
@@ -27,7 +29,6 @@ use Rattle.links.proofs.Leading.{path-target}
 use Rattle.stage.specs.declared.change.Change.{Change}
 use Rattle.stage.specs.declared.change.Spot.{Spot}
 use Rattle.stage.specs.Changes.{Spotted, SpottedOn}
-use Rattle.edit.specs.declared.apply.Applied.TheVariants.{Nothing, Left}
 use Rattle.edit.specs.declared.plan.Plan.{Plan}
 use Rattle.edit.specs.Shapes.{ContsCounted}
 use Rattle.edit.specs.Makes.{PlanReady, PlanFor}
@@ -39,11 +40,8 @@ use Rattle.edit.proofs.Committing.{plan-total}
 use Rattle.edit.proofs.Rewritings.{plan-is, plan-ready, counted, carries, written}
 
 -- the answer tells how many pages are free
-pub told : {img : List ℕ} {L : Layout} {p : TextPlan} {m n : ℕ} {out : List ℕ} → CarriedOut img L p m out → Left m ≡ Left n → CarriedOut img L p n out
+pub told : {img : List ℕ} {L : Layout} {p : TextPlan} {m n : ℕ} {out : List ℕ} → CarriedOut img L p m out → Some m ≡ Some n → CarriedOut img L p n out
 told {img} {L} {p} {m} {n} {out} c e = let i : m ≡ n = cc in subst (λ (k : ℕ). CarriedOut img L p k out) i c
-
-pub not_left : {n : ℕ} → Nothing ≡ Left n → ⊥
-not_left e = let z : ◌≡◌ {A = ℕ} 0 1 = cc in omega arith
 
 -- a span rewritten with the entries es is the text's plan for them
 pub plan-writes : (L : Layout) (name : List ℕ) (t : Table) (i : ℕ) {es fs : List Entry} → fs ≡ es → writes_for t i L.free fs ≡ changes_of L (rewrite_plan L name t i es)
@@ -139,8 +137,8 @@ module _ {img : List ℕ} {d : TableRef} {free : ℕ} {k : List ℕ} (v : List �
       unfolding put_plan
       image-is p w = written o q has_room (w.image (key_rule name) t L.free (place a k) (carries o q has_room) (path-target (reading a) k p)) ∙ ap (λ (ws : List Write). apply ws img) (plan-writes L name t (place a k) (inserted a k page f s g v))
 
-  pub put_full : n + free < wanted_of x → PutDone img d free k v Nothing img
-  put_full l = record { done = λ b e. absurd (not_left e); refused = λ e L name t a h. (lacking a h l, refl) }
+  pub put_full : n + free < wanted_of x → PutDone img d free k v None img
+  put_full l = record { done = λ b e. absurd (none-some _ e); refused = λ e L name t a h. (lacking a h l, refl) }
 
   module _ (l : wanted_of x ≤ n + free) where
     module _ {path : Path} (p : PathIn img d k false path) where
@@ -158,9 +156,9 @@ module _ {img : List ℕ} {d : TableRef} {free : ℕ} {k : List ℕ} (v : List �
             passed = path-target (reading h.is) k p;
           }
 
-      pub put-done : {out : List ℕ} → CarriedOn img x (put_at s) k v path.pages out → PutDone img d free k v (Left (n + free - wanted_of x)) out
+      pub put-done : {out : List ℕ} → CarriedOn img x (put_at s) k v path.pages out → PutDone img d free k v (Some (n + free - wanted_of x)) out
       put-done w =
           record {
             done = λ b e L name t a h. (enough a h l, told (record { image = image-is a h l p w; left = left_is a h l }) e);
-            refused = λ e. absurd (not_left (sym e));
+            refused = λ e. absurd (none-some _ (sym e));
           }

@@ -1,5 +1,5 @@
 -- What put asks for, and what it leaves.
-use Rattle.std.specs.Prelude.{ℕ, ◌≤◌, ◌≡◌, true, false, List, length, T}
+use Rattle.std.specs.Prelude.{ℕ, ◌≤◌, ◌≡◌, true, false, List, length, T, Option, Some, None}
 use Rattle.std.proofs.Math.Option.{some}
 use Rattle.blockfile.specs.Bytes.{apply}
 use Rattle.blockfile.specs.Layout.{Table, Layout, free_count}
@@ -9,8 +9,6 @@ use Rattle.blockfile.specs.Plan.{Plan, drawn_by, lacks, changes_of}
 use Rattle.blockfile.specs.Put.{put_plan}
 use Rattle.order.specs.Sorts.{table_sort}
 use Rattle.search.specs.declared.table.TableRef.{TableRef}
-use Rattle.edit.specs.declared.apply.Applied.{Applied}
-use Rattle.edit.specs.declared.apply.Applied.TheVariants.{Nothing, Left}
 
 -- the plan is carried out, all but the count of free pages, and n pages are free after it
 pub record CarriedOut (img : List ℕ) (L : Layout) (p : Plan) (n : ℕ) (out : List ℕ) : Type 0 where
@@ -35,8 +33,8 @@ pub record PutReady (img scratch : List ℕ) (d : TableRef) (free : ℕ) (k v : 
   pub lent : length scratch ≡ length img
 
 -- with room the text's plan is carried out, else the image is as it was
-pub record PutDone (img : List ℕ) (d : TableRef) (free : ℕ) (k v : List ℕ) (r : Applied) (out : List ℕ) : Type 0 where
-  pub done : (n : ℕ) → r ≡ Left n → (L : Layout) (name : List ℕ) (t : Table) → TableAt img d L name t → free_count L.free ≡ free
+pub record PutDone (img : List ℕ) (d : TableRef) (free : ℕ) (k v : List ℕ) (r : Option ℕ) (out : List ℕ) : Type 0 where
+  pub done : (n : ℕ) → r ≡ Some n → (L : Layout) (name : List ℕ) (t : Table) → TableAt img d L name t → free_count L.free ≡ free
       → (lacks L (put_plan L name t k v) ≡ false) × CarriedOut img L (put_plan L name t k v) n out
-  pub refused : r ≡ Nothing → (L : Layout) (name : List ℕ) (t : Table) → TableAt img d L name t → free_count L.free ≡ free
+  pub refused : r ≡ None → (L : Layout) (name : List ℕ) (t : Table) → TableAt img d L name t → free_count L.free ≡ free
       → (lacks L (put_plan L name t k v) ≡ true) × (out ≡ img)

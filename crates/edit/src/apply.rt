@@ -13,13 +13,6 @@ use draw::list::{number_at, set_number};
 use links::around::{towers_after, towers_before};
 use stage::change::Change;
 
-// Whether a change was made, and then how many pages are free after it.
-#[derive(Clone, Copy)]
-pub enum Applied {
-    Nothing,
-    Left(usize),
-}
-
 // Draws the pages that the plan wants, and the further ones: the list in the buffer is then the span's own page and these. Answers
 // how many pages of the span were left over and given back.
 fn draw_plan(image: &mut [u8], buffer: &mut [u8], plan: Plan) -> usize

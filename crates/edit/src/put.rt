@@ -1,15 +1,15 @@
 // A key's value put into a table.
 ghost use Rattle.edit.specs.Puts.{PutReady, PutDone};
 
-use crate::apply::{Applied, carry_out};
+use crate::apply::carry_out;
 use crate::plan::make_plan;
 use crate::shape::count_conts;
 use search::path::descend;
 use search::table::{TableRef, find_from};
 use stage::change::{Change, find_spot};
 
-// Puts the value under the key in the table; `free` pages are free. Answers how many are free after it; without room nothing
-// changes. The scratch is as long as the image.
+// Puts the value under the key in the table; `free` pages are free. Answers how many are free after it; without room it is none,
+// and nothing changes. The scratch is as long as the image.
 pub fn put(
     image: &mut [u8],
     scratch: &mut [u8],
@@ -17,7 +17,7 @@ pub fn put(
     free: usize,
     key: &[u8],
     value: &[u8],
-) -> Applied
+) -> Option<usize>
     requires { PutReady image.old scratch.old table free key.now value.now }
     ensures { PutDone image.old table free key.now value.now result image.new }
 {
@@ -44,9 +44,9 @@ pub fn put(
     let available = old + free;
     let wanted = plan.wants.conts + plan.wants.span + plan.wants.tower;
     if available < wanted {
-        return Applied::Nothing;
+        return None;
     }
     let pages = path.pages;
     carry_out(image, scratch, plan, change, key, value, &pages);
-    Applied::Left(available - wanted)
+    Some(available - wanted)
 }

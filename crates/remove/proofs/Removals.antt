@@ -8,6 +8,8 @@ use mathlib.Core.List.{List, [], ◌∷◌, ◌++◌, map}
 use mathlib.Core.Option.{Option, none, some}
 use lib.ListN.{length, take, drop, length-map}
 use lib.Dec.{T}
+use Rattle.std.specs.Prelude.{Some, None}
+use Rattle.std.proofs.lemmas.Option.{none-some}
 use Rattle.blockfile.specs.Bytes.{Write, apply}
 use Rattle.blockfile.specs.Layout.{Entry, Tower, Column, Table, Layout, columns, tower_in, towers_of, entries_of, free_count}
 use Rattle.blockfile.specs.Order.{key_rule, same, find, erase}
@@ -29,7 +31,6 @@ use Rattle.links.proofs.Leading.{path-strict}
 use Rattle.stage.specs.declared.change.Spot.{Spot}
 use Rattle.stage.specs.Changes.{spliced, Fits, Spotted, SpottedOn}
 use Rattle.stage.proofs.Splices.{length-spliced}
-use Rattle.edit.specs.declared.apply.Applied.TheVariants.{Nothing, Left}
 use Rattle.edit.specs.declared.fields.Links.{Links}
 use Rattle.edit.specs.Fields.{LinkedOn, LinksOf, LinksRead}
 use Rattle.edit.specs.Standing.{here_at}
@@ -37,7 +38,7 @@ use Rattle.edit.specs.Stages.{coming}
 use Rattle.edit.specs.Puts.{CarriedOut, TableAt}
 use Rattle.edit.proofs.Stands.{table-standing, span-borne}
 use Rattle.edit.proofs.Rewritings.{all-few}
-use Rattle.edit.proofs.Puttings.{told, not_left, reading, place, ok, inside, spotted, plan-writes, plan-left}
+use Rattle.edit.proofs.Puttings.{told, reading, place, ok, inside, spotted, plan-writes, plan-left}
 use Rattle.remove.specs.Unlinks.{gone_count, UnlinkOf, UnlinkReady, Unlinked}
 use Rattle.remove.specs.Leaves.{taken_out, others, LeaveOf, LeaveReady, SpanLeft}
 use Rattle.remove.specs.Removes.{RemoveReady, RemoveDone}
@@ -257,17 +258,17 @@ module _ {img scratch : List ℕ} {d : TableRef} {free : ℕ} {k : List ℕ} (h 
 -- ---- The answers
 
 module _ {img : List ℕ} {d : TableRef} {free : ℕ} {k : List ℕ} (page : ℕ) (f : TargetIn img d k page) (s : Spot) (g : SpottedOn img page d.sort k s) where
-  pub not_there : s.there ≡ 0 → RemoveDone img d free k Nothing img
-  not_there z = record { done = λ n e. absurd (not_left e); missing = λ e L name t a. (missing a k page f s g z, refl) }
+  pub not_there : s.there ≡ 0 → RemoveDone img d free k None img
+  not_there z = record { done = λ n e. absurd (none-some _ e); missing = λ e L name t a. (missing a k page f s g z, refl) }
 
   module _ (there : s.there ≡ 0 → ⊥) (x : Links) (y : LinksRead img page x) where
     was-there : {n : ℕ} {out : List ℕ} → ((L : Layout) (name : List ℕ) (t : Table) → TableAt img d L name t → free_count L.free ≡ free → CarriedOut img L (remove_plan L name t k) n out)
-        → RemoveDone img d free k (Left n) out
-    was-there h = record { done = λ m e L name t a c. (found a k page f s g there, told (h L name t a c) e); missing = λ e. absurd (not_left (sym e)) }
+        → RemoveDone img d free k (Some n) out
+    was-there h = record { done = λ m e L name t a c. (found a k page f s g there, told (h L name t a c) e); missing = λ e. absurd (none-some _ (sym e)) }
 
     pub went : (x.prev ≡ 0 → ⊥) × (x.size ≡ 1) → {path : Path} → PathIn img d k true path → {n : ℕ} {out : List ℕ} → Unlinked img d.root page x path.pages n out
-        → RemoveDone img d free k (Left (free + n)) out
+        → RemoveDone img d free k (Some (free + n)) out
     went z p u = was-there (λ L name t a e. gone-done a k page f s g there x y z p u e)
 
-    pub stayed : (x.prev ≡ 0) ⊎ (x.size ≡ 1 → ⊥) → {n : ℕ} {out : List ℕ} → SpanLeft img d.root page s.index n out → RemoveDone img d free k (Left (free + n)) out
+    pub stayed : (x.prev ≡ 0) ⊎ (x.size ≡ 1 → ⊥) → {n : ℕ} {out : List ℕ} → SpanLeft img d.root page s.index n out → RemoveDone img d free k (Some (free + n)) out
     stayed z w = was-there (λ L name t a e. left-done a k page f s g there x y z e w)

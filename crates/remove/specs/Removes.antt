@@ -1,12 +1,10 @@
 -- What remove asks for, and what it leaves.
-use Rattle.std.specs.Prelude.{ℕ, ◌≡◌, ◌⊎◌, Bool, true, false, List, length, T}
+use Rattle.std.specs.Prelude.{ℕ, ◌≡◌, ◌⊎◌, Bool, true, false, List, length, T, Option, Some, None}
 use Rattle.std.proofs.Math.Option.{none, some}
 use Rattle.blockfile.specs.Layout.{Table, Layout, entries_of, free_count}
 use Rattle.blockfile.specs.Order.{key_rule, find}
 use Rattle.blockfile.specs.Remove.{remove_plan}
 use Rattle.search.specs.declared.table.TableRef.{TableRef}
-use Rattle.edit.specs.declared.apply.Applied.{Applied}
-use Rattle.edit.specs.declared.apply.Applied.TheVariants.{Nothing, Left}
 use Rattle.edit.specs.declared.fields.Links.{Links}
 use Rattle.edit.specs.Puts.{CarriedOut, TableAt}
 
@@ -25,7 +23,7 @@ pub record RemoveReady (img scratch : List ℕ) (d : TableRef) (free : ℕ) (k :
   pub lent : length scratch ≡ length img
 
 -- if the table has the key, the text's plan is carried out, else the image is as it was
-pub record RemoveDone (img : List ℕ) (d : TableRef) (free : ℕ) (k : List ℕ) (r : Applied) (out : List ℕ) : Type 0 where
-  pub done : (n : ℕ) → r ≡ Left n → (L : Layout) (name : List ℕ) (t : Table) → TableAt img d L name t → free_count L.free ≡ free
+pub record RemoveDone (img : List ℕ) (d : TableRef) (free : ℕ) (k : List ℕ) (r : Option ℕ) (out : List ℕ) : Type 0 where
+  pub done : (n : ℕ) → r ≡ Some n → (L : Layout) (name : List ℕ) (t : Table) → TableAt img d L name t → free_count L.free ≡ free
       → ((v : List ℕ) × (find k (entries_of t) ≡ some v)) × CarriedOut img L (remove_plan L name t k) n out
-  pub missing : r ≡ Nothing → (L : Layout) (name : List ℕ) (t : Table) → TableAt img d L name t → (find k (entries_of t) ≡ none) × (out ≡ img)
+  pub missing : r ≡ None → (L : Layout) (name : List ℕ) (t : Table) → TableAt img d L name t → (find k (entries_of t) ≡ none) × (out ≡ img)

@@ -3,7 +3,7 @@ ghost use Rattle.remove.specs.Leaves.{LeaveReady, SpanLeft};
 ghost use Rattle.remove.specs.Removes.{Goes, RemoveReady, RemoveDone};
 
 use crate::unlink::unlink;
-use edit::apply::{Applied, carry_flat};
+use edit::apply::carry_flat;
 use edit::fields::{Links, read_links};
 use edit::plan::make_plan;
 use search::path::descend;
@@ -37,8 +37,8 @@ fn leave(image: &mut [u8], scratch: &mut [u8], root: usize, page: usize, index: 
     carry_flat(image, scratch, plan, change, &none, &none)
 }
 
-// Removes the key from the table; `free` pages are free. Answers how many are free after it; if the key is not there, nothing changes.
-// The scratch is as long as the image. The path is strictly below the key: a span that goes has that key alone, so the path has the
+// Removes the key from the table; `free` pages are free. Answers how many are free after it; if the key is not there it is none, and
+// nothing changes. The scratch is as long as the image. The path is strictly below the key: a span that goes has that key alone, so the path has the
 // towers before it, and the span where the key belongs is found from any tower before.
 pub fn remove(
     image: &mut [u8],
@@ -46,7 +46,7 @@ pub fn remove(
     table: TableRef,
     free: usize,
     key: &[u8],
-) -> Applied
+) -> Option<usize>
     requires { RemoveReady image.old scratch.old table free key.now }
     ensures { RemoveDone image.old table free key.now result image.new }
 {
@@ -55,14 +55,14 @@ pub fn remove(
     let sort = table.sort;
     let spot = find_spot(image, page, sort, key);
     if spot.there == 0 {
-        return Applied::Nothing;
+        return None;
     }
     let links = read_links(image, page);
     if goes(links) {
         let pages = path.pages;
         let left = free + unlink(image, table.root, page, links, &pages);
-        return Applied::Left(left);
+        return Some(left);
     }
     let left = free + leave(image, scratch, table.root, page, spot.index);
-    Applied::Left(left)
+    Some(left)
 }

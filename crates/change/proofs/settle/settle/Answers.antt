@@ -4,10 +4,10 @@ use Rattle.change.proofs.settle.settle.Goals as goal
 pub keep_count-requires : goal.keep_count-requires
 keep_count-requires c =
     let p = c.requires in
-    (p.inside, p.few _ c.in-Left.is)
+    (p.inside, p.few _ c.in-Some.is)
 
-pub returns-in-Nothing : goal.returns-in-Nothing
-returns-in-Nothing c = undone _ _ _ c.in-Nothing.is
+pub returns-in-None : goal.returns-in-None
+returns-in-None c = undone _ _ _ c.in-None.is
 
-pub returns-in-Left : goal.returns-in-Left
-returns-in-Left c = counted _ _ _ _ c.in-Left.is _ c.keep_count.ensures
+pub returns-in-Some : goal.returns-in-Some
+returns-in-Some c = counted _ _ _ _ c.in-Some.is _ c.keep_count.ensures
