@@ -6,7 +6,7 @@ ghost use Rattle.refusals.specs.Open.{Opens};
 use crate::legal::is_within;
 use blockfile::{Counts, Refusal};
 use pages::write::clear;
-use verify::image::{Verdict, verify};
+use verify::image::verify;
 
 // Refused with 1, 2 or 3, or accepted with what check counts.
 #[derive(Clone, Copy)]
@@ -38,7 +38,7 @@ pub fn open(image: &[u8], scratch: &mut [u8]) -> Opened
     }
     // room for the heads of the pages
     let heads = 20 * (image.len() / 1024);
-    let Verdict::Good(counts) = verify(image, &mut scratch[..heads]) else {
+    let Some(counts) = verify(image, &mut scratch[..heads]) else {
         clear(scratch, image.len());
         return Opened::Refused(Refusal::NotWellFormed);
     };
