@@ -1,13 +1,14 @@
 -- Opening an image: one law for each way out.
 use Prim.Native.Nat.{ℕ, ◌+◌, ◌*◌, ◌-◌, ◌/◌, ◌%◌, ◌≤◌}
 use native.Mathlib.Omega.{arith}
-use mathlib.Core.Path.{◌≡◌, refl, ap, ◌∙◌, subst}
+use mathlib.Core.Path.{◌≡◌, refl, ap, sym, ◌∙◌, subst}
 use mathlib.Core.List.{List, ◌++◌}
 use mathlib.Core.Bool.{true}
 use lib.ListN.{length, take, drop, replicate, length-append, length-take, length-drop}
 use lib.Seq.{drop-append-add, drop-drop}
 use lib.Dec.{eqb, eqb→eq}
-use Rattle.std.specs.Prelude.{Result, Ok, Err}
+use Rattle.std.specs.Prelude.{Option, Some, None, Result, Ok, Err}
+use Rattle.std.proofs.lemmas.Option.{none-some}
 use Rattle.blockfile.specs.declared.Counts.{Counts}
 use Rattle.blockfile.specs.declared.Refusal.{Refusal}
 use Rattle.blockfile.specs.declared.Refusal.TheVariants.{NotWellFormed}
@@ -18,8 +19,6 @@ use Rattle.blockfile.specs.Answers.{refuse}
 use Rattle.blockfile.specs.Calls.{length_ok, cleared, Called, malformed, Keeps}
 use Rattle.blockfile.proofs.Bools.{holds, and_both, within-is}
 use Rattle.heads.specs.Claims.{Room}
-use Rattle.verify.specs.declared.image.Verdict.{Verdict}
-use Rattle.verify.specs.declared.image.Verdict.TheVariants.{Bad, Good}
 use Rattle.verify.specs.Image.{counts_of, Judged}
 use Rattle.refusals.specs.Open.{Opening, Opens}
 
@@ -73,17 +72,17 @@ ends n s mid out past clear = clear ∙ ap (λ (t : List ℕ). replicate n 0 ++ 
 
 -- ---- The verdict
 
-module _ (img s : List ℕ) (fits : Fits img s) (r : Verdict) (judged : Judged img r) where
+module _ (img s : List ℕ) (fits : Fits img s) (r : Option Counts) (judged : Judged img r) where
   -- no layout fits: the call is refused, and the scratch cleared
-  pub bad : r ≡ Bad → (mid out : List ℕ) → drop (length img) mid ≡ drop (length img) s → out ≡ cleared (length img) mid
+  pub bad : r ≡ None → (mid out : List ℕ) → drop (length img) mid ≡ drop (length img) s → out ≡ cleared (length img) mid
       → (op : Op) (room : ℕ) → Called op img s room (refuse NotWellFormed) out
   bad e mid out past clear op room = malformed fits.sized fits.enough none refl (ends (length img) s mid out past clear)
     where
       none : Rejected img
-      none L w = let h : r ≡ Good (counts_of L) = judged.complete L w in let z : ◌≡◌ {A = ℕ} 0 1 = cc in absurd (omega arith)
+      none L w = none-some (counts_of L) (sym e ∙ judged.complete L w)
 
   -- a layout fits: the call goes on
-  pub good : (c : Counts) → r ≡ Good c → (out : List ℕ) → length out ≡ length s → drop (length img) out ≡ drop (length img) s
+  pub good : (c : Counts) → r ≡ Some c → (out : List ℕ) → length out ≡ length s → drop (length img) out ≡ drop (length img) s
       → Opening img s c out
   good c e out long past =
       let f = judged.sound c e in

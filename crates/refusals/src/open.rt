@@ -6,7 +6,7 @@ ghost use Rattle.refusals.specs.Open.{Opens};
 use crate::legal::is_within;
 use blockfile::{Counts, Refusal};
 use pages::write::clear;
-use verify::image::{Verdict, verify};
+use verify::image::verify;
 
 // Whether n is the length of an image: 4 to 4096 pages of 1024 bytes.
 fn is_length(n: usize) -> bool
@@ -28,7 +28,7 @@ pub fn open(image: &[u8], scratch: &mut [u8]) -> Result<Counts, Refusal>
     }
     // room for the heads of the pages
     let heads = 20 * (image.len() / 1024);
-    let Verdict::Good(counts) = verify(image, &mut scratch[..heads]) else {
+    let Some(counts) = verify(image, &mut scratch[..heads]) else {
         clear(scratch, image.len());
         return Err(Refusal::NotWellFormed);
     };

@@ -5,6 +5,8 @@ use mathlib.Core.Path.{◌≡◌, refl, ap, sym, ◌∙◌, subst}
 use mathlib.Core.List.{List, [], ◌∷◌, map}
 use lib.ListN.{length}
 use lib.Dec.{T}
+use Rattle.std.proofs.Common.{Option, Some, None}
+use Rattle.std.proofs.lemmas.Option.{none-some, same_Some}
 use Rattle.blockfile.specs.Bytes.{first_of}
 use Rattle.blockfile.specs.Layout.{Entry, Span}
 use Rattle.blockfile.specs.WellFormed.{Piece, span, link_spans}
@@ -16,7 +18,6 @@ use Rattle.walks.proofs.Founds.{lent-claims, length-claims, unclaimed-claims, fo
 use Rattle.entries.proofs.Keys.{key_one}
 use Rattle.spans.specs.declared.entry.Last.{Last}
 use Rattle.spans.specs.declared.span.Spanned.{Spanned}
-use Rattle.spans.specs.declared.span.Spanned.TheVariants.{Wrong, Right}
 use Rattle.spans.specs.Spans.{entries_in}
 use Rattle.order.specs.declared.sort.Sort.{Sort}
 use Rattle.spans.specs.Entries.{fits, last_key, LastIs}
@@ -88,41 +89,42 @@ pub record Fell (n : ℕ) (scr s : List ℕ) : Type 0 where
   pub less : unclaimed s < unclaimed scr
   pub lent : {img : List ℕ} → Lent img scr → Lent img s
 
-module _ {sort : Sort} {img scr : List ℕ} {z p prev : ℕ} {low : List ℕ} {a : Spanned} {s : List ℕ} (v : Verified sort img scr p prev z low a s) where
+module _ {sort : Sort} {img scr : List ℕ} {z p prev : ℕ} {low : List ℕ} {a : Option Spanned} {s : List ℕ} (v : Verified sort img scr p prev z low a s) where
   -- a chain that starts with a span starts where the answer is right, and goes on as the answer says
-  pub chain-not : a ≡ Wrong → {sp : Span} {ss : List Span} {t : List ℕ} → ChainFound sort img scr z p prev low (sp ∷ ss) t → ⊥
+  pub chain-not : a ≡ None → {sp : Span} {ss : List Span} {t : List ℕ} → ChainFound sort img scr z p prev low (sp ∷ ss) t → ⊥
   chain-not e {sp} {ss} c =
       let d : Answered sort img low sp (start_of ss) (claims scr (owned_by (alone z prev sp ss))) a s = v.complete sp (start_of ss) (claims scr (owned_by (alone z prev sp ss))) (chain_first c) in
-      let q : ◌≡◌ {A = ℕ} 0 1 = cc (d.is, e) in omega arith
+      none-some _ (sym e ∙ d.is)
 
-  module _ {n next : ℕ} {l : Last} (e : a ≡ Right n next l) where
-    pub told : Told sort img scr p prev z low n next l s
-    told = v.sound n next l e
+  module _ {x : Spanned} (e : a ≡ Some x) where
+    pub told : Told sort img scr p prev z low x s
+    told = v.sound x e
 
     abbrev pub hi : List ℕ
     hi = last_key low told.sp.entries
 
     -- a chain from here
     pub record Onward (sp : Span) (ss : List Span) (t : List ℕ) : Type 0 where
-      pub count : n ≡ length sp.entries
-      pub chain : ChainFound sort img s z next p hi ss t
+      pub count : x.size ≡ length sp.entries
+      pub chain : ChainFound sort img s z x.next p hi ss t
 
     pub onward : {sp : Span} {ss : List Span} {t : List ℕ} → ChainFound sort img scr z p prev low (sp ∷ ss) t → Onward sp ss t
     onward {sp} {ss} {t} c =
         let d : Answered sort img low sp (start_of ss) (claims scr (owned_by (alone z prev sp ss))) a s = v.complete sp (start_of ss) (claims scr (owned_by (alone z prev sp ss))) (chain_first c) in
-        let last : d.last ≡ l = cc (d.is, e) in
-        let there : LastIs sort img l (last_key low sp.entries) = subst (λ (k : Last). LastIs sort img k (last_key low sp.entries)) last d.key in
-        let same : last_key low sp.entries ≡ hi = key_one img l.at l.length (last_key low sp.entries) hi there.there told.key.there in
+        let same : record { size = length sp.entries; next = start_of ss; last = d.last } ≡ x = same_Some _ _ (sym d.is ∙ e) in
+        let last : d.last ≡ x.last = ap (λ (y : Spanned). y.last) same in
+        let there : LastIs sort img x.last (last_key low sp.entries) = subst (λ (k : Last). LastIs sort img k (last_key low sp.entries)) last d.key in
+        let only : last_key low sp.entries ≡ hi = key_one img x.last.at x.last.length (last_key low sp.entries) hi there.there told.key.there in
         record {
-          count = cc (d.is, e);
-          chain = subst (λ (k : List ℕ). ChainFound sort img s z next p k ss t) same
-              (subst (λ (q : ℕ). ChainFound sort img s z q p (last_key low sp.entries) ss t) (cc (d.is, e))
+          count = ap (λ (y : Spanned). y.size) (sym same);
+          chain = subst (λ (k : List ℕ). ChainFound sort img s z x.next p k ss t) only
+              (subst (λ (q : ℕ). ChainFound sort img s z q p (last_key low sp.entries) ss t) (ap (λ (y : Spanned). y.next) same)
               (subst (λ (m : List ℕ). ChainFound sort img m z (start_of ss) p (last_key low sp.entries) ss t) (sym d.left) (chain-rest c)));
         }
 
-    pub fell : z ≤ 128 → Fell n scr s
+    pub fell : z ≤ 128 → Fell x.size scr s
     fell h =
-        let t : Told sort img scr p prev z low n next l s = told in
+        let t : Told sort img scr p prev z low x s = told in
         let pages : List ℕ = t.sp.page ∷ t.sp.conts in
         let left : s ≡ claims scr pages = found_left t.found.found in
         record {

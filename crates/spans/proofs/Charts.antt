@@ -7,13 +7,14 @@ use mathlib.Core.Logic.{by_cases}
 use mathlib.Core.List.{List}
 use lib.ListN.{length, drop, get_or, set, length-drop, length-set}
 use lib.Seq.{drop-drop, get_or-set_same, get_or-set_other}
+use Rattle.std.proofs.Common.{Some}
 use Rattle.heads.specs.Claims.{Lent, InHead, head32}
 use Rattle.heads.proofs.Claims.{in_head, head32-is}
 use Rattle.entries.specs.declared.place.Place.{Place}
 use Rattle.entries.specs.Places.{Rest, Enough, Moved}
 use Rattle.entries.proofs.Rests.{rest-one, rest_in, rest-next}
 use Rattle.spans.specs.declared.entry.Last.{Last}
-use Rattle.spans.specs.declared.entry.Entered.TheVariants.{Read}
+use Rattle.spans.specs.declared.entry.Position.{Position}
 use Rattle.order.specs.declared.sort.Sort.{Sort}
 use Rattle.spans.specs.Entries.{taken, key_of, Run, LastIs, Ended, Entering}
 use Rattle.spans.specs.Charts.{along, Charted, Noted, Paged, Spread}
@@ -76,12 +77,12 @@ module _ {img chart : List ℕ} {more : ℕ} {at : Place} {left : ℕ} (s : Spre
   pub spread-on : {k : ℕ} → k ≤ left → {p : Place} → Moved img at k p → {rest : ℕ} → rest ≡ left - k → Spread img chart more p rest
   spread-on {k} h m e = spread-to k h (m.to s.bytes s.rest) e
 
-  pub spread-entered : {sort : Sort} {l : Last} {low : List ℕ} → LastIs sort img l low → {n : ℕ} {p : Place} {rest : ℕ} {last : Last}
-      → Entering sort img at l n (Read p rest last) → Spread img chart more p rest
-  spread-entered {sort} {l} {low} key {n} {p} {rest} {last} e =
-      let d : Ended sort img s.bytes low n p rest last = e.is s.bytes low s.rest key in
+  pub spread-entered : {sort : Sort} {l : Last} {low : List ℕ} → LastIs sort img l low → {n : ℕ} {p : Position}
+      → Entering sort img at l n (Some p) → Spread img chart more p.at p.left
+  spread-entered {sort} {l} {low} key {n} {p} e =
+      let d : Ended sort img s.bytes low n p.at p.left p.last = e.is s.bytes low s.rest key in
       let k : (k : ℕ) × (k ≤ length s.bytes) × (d.bytes ≡ drop k s.bytes) = run_drop sort n s.bytes low d.bytes d.hi d.run in
-      spread-to k.0 (omega (arith, k.1, s.long)) (subst (Rest img p) k.2 d.rest) (omega (arith, d.long, ap length k.2, length-drop k.0 s.bytes, s.long))
+      spread-to k.0 (omega (arith, k.1, s.long)) (subst (Rest img p.at) k.2 d.rest) (omega (arith, d.long, ap length k.2, length-drop k.0 s.bytes, s.long))
     where
       run_drop : (sort : Sort) (n : ℕ) (s low t hi : List ℕ) → Run sort s low n t hi → (k : ℕ) × (k ≤ length s) × (t ≡ drop k s)
       run_drop sort zero s low t hi r = (0, omega arith, sym r.0)

@@ -17,10 +17,10 @@ use Rattle.walks.specs.Found.{Open, Fresh, claims, unclaimed, FindsAt}
 use Rattle.walks.proofs.Founds.{length-claimed, unclaimed-most, open-claimable, SameAt, same_start, same_turn, finds-none, finds-done}
 use Rattle.walks.proofs.Pieces.{claim-left, claim-open, claim-begins, claim-length, claim-falls, claim-lent}
 use Rattle.entries.specs.Places.{IsPage}
-use Rattle.spans.specs.declared.claims.Claims.{Claims}
-use Rattle.spans.specs.declared.claims.Claims.TheVariants.{Refused, Held}
+use Rattle.std.proofs.Common.{Option, Some, None}
+use Rattle.std.proofs.lemmas.Option.{none-some, same_Some}
 use Rattle.spans.specs.Charts.{along, Charted, Noted}
-use Rattle.spans.specs.Parts.{held, ContsFound, PagesFound, ContsClaimed, PagesClaimed}
+use Rattle.spans.specs.Parts.{ContsFound, PagesFound, ContsClaimed, PagesClaimed}
 use Rattle.spans.proofs.Charts.{charted-none, charted-next}
 
 -- ---- a claim
@@ -46,9 +46,6 @@ unfolding cont_mark
 begins-cont b e = take_begins (get_or marks 4 []) b e
 
 -- ---- continuation pages
-
-held_one : (a b : ℕ) → held a ≡ held b → a ≡ b
-held_one a b e = cc
 
 module _ (img scr : List ℕ) (p n : ℕ) where
   conts-end : p ≡ 0 → ContsFound img scr p n n scr
@@ -101,12 +98,12 @@ pub claiming-start : (img scr : List ℕ) (start : ℕ) → Lent img scr → Cla
 claiming-start img scr start lent = record { kept = refl; few = omega arith; lent = lent; same = same_start (ContsFound img scr start 0) }
 
 module _ {img scr₀ : List ℕ} {start : ℕ} {scr : List ℕ} {p n : ℕ} (w : Claiming img scr₀ start scr p n) where
-  pub claiming-end : p ≡ 0 → FindsAt held (ContsFound img scr₀ start 0) (Held n) scr
-  claiming-end e = finds-done held (Held n) scr w.same held_one n refl (conts-end img scr p n e) (conts-only img scr p n e)
+  pub claiming-end : p ≡ 0 → FindsAt Some (ContsFound img scr₀ start 0) (Some n) scr
+  claiming-end e = finds-done w.same n (conts-end img scr p n e) (conts-only img scr p n e)
 
   module _ (z : p ≡ 0 → ⊥) {r : Bool} {out : List ℕ} (c : Claimed img scr p 4 r out) where
-    pub claiming-no : r ≡ false → FindsAt held (ContsFound img scr₀ start 0) Refused out
-    claiming-no e = finds-none held Refused out w.same (λ a q. let x : ◌≡◌ {A = ℕ} 0 1 = cc in omega arith) (conts-no img scr p n z c e)
+    pub claiming-no : r ≡ false → FindsAt Some (ContsFound img scr₀ start 0) None out
+    claiming-no e = finds-none w.same (conts-no img scr p n z c e)
 
     pub claiming-next : r ≡ true → (next : ℕ) → next ≡ be32 (pg img p) 4 → Claiming img scr₀ start out next (n + 1)
     claiming-next e next is =
@@ -127,12 +124,12 @@ pub noting-start : (img scr chart : List ℕ) (start : ℕ) → Lent img scr →
 noting-start img scr chart start lent l = record { claiming = claiming-start img scr start lent; charted = charted-none img start chart l; on = refl }
 
 module _ {img scr₀ : List ℕ} {start : ℕ} {scr chart : List ℕ} {p n : ℕ} (w : Noting img scr₀ start scr chart p n) where
-  pub noting-end : p ≡ 0 → ContsClaimed img scr₀ start (Held n) scr chart
-  noting-end e = record { found = claiming-end w.claiming e; charted = λ m q. let i : n ≡ m = held_one n m q in subst (λ (k : ℕ). Charted img start k chart) i w.charted }
+  pub noting-end : p ≡ 0 → ContsClaimed img scr₀ start (Some n) scr chart
+  noting-end e = record { found = claiming-end w.claiming e; charted = λ m q. let i : n ≡ m = same_Some n m q in subst (λ (k : ℕ). Charted img start k chart) i w.charted }
 
   module _ (z : p ≡ 0 → ⊥) {r : Bool} {out : List ℕ} (c : Claimed img scr p 4 r out) where
-    pub noting-no : r ≡ false → ContsClaimed img scr₀ start Refused out chart
-    noting-no e = record { found = claiming-no w.claiming z c e; charted = λ m q. absurd (let x : ◌≡◌ {A = ℕ} 0 1 = cc in omega arith) }
+    pub noting-no : r ≡ false → ContsClaimed img scr₀ start None out chart
+    noting-no e = record { found = claiming-no w.claiming z c e; charted = λ m q. absurd (none-some m q) }
 
     module _ (e : r ≡ true) where
       -- what noting the page asks
@@ -153,15 +150,15 @@ module _ {img scr₀ : List ℕ} {start : ℕ} {scr chart : List ℕ} {p n : ℕ
 -- ---- the pages of a span
 
 module _ {img scr : List ℕ} {p : ℕ} {r : Bool} {mid : List ℕ} (c : Claimed img scr p 3 r mid) where
-  pages-none : r ≡ false → FindsAt held (PagesFound img scr p) Refused mid
+  pages-none : r ≡ false → FindsAt Some (PagesFound img scr p) None mid
   pages-none e =
-      finds-none held Refused mid (same_start (PagesFound img scr p)) (λ a q. let x : ◌≡◌ {A = ℕ} 0 1 = cc in omega arith)
+      finds-none (same_start (PagesFound img scr p))
       (λ m t x. claim-not c e x.fresh.0 (begins-span (pg img p) x.marked))
 
-  pub pages-no : {chart : List ℕ} → r ≡ false → PagesClaimed img scr p Refused mid chart
-  pages-no e = record { found = pages-none e; charted = λ m q. absurd (let x : ◌≡◌ {A = ℕ} 0 1 = cc in omega arith) }
+  pub pages-no : {chart : List ℕ} → r ≡ false → PagesClaimed img scr p None mid chart
+  pages-no e = record { found = pages-none e; charted = λ m q. absurd (none-some m q) }
 
-  pages-all : r ≡ true → (first : ℕ) → first ≡ be32 (pg img p) 4 → {a : Claims} {out : List ℕ} → FindsAt held (ContsFound img mid first 0) a out → FindsAt held (PagesFound img scr p) a out
+  pages-all : r ≡ true → (first : ℕ) → first ≡ be32 (pg img p) 4 → {a : Option ℕ} {out : List ℕ} → FindsAt Some (ContsFound img mid first 0) a out → FindsAt Some (PagesFound img scr p) a out
   pages-all e first is {a} {out} f =
       let left : mid ≡ claimed scr p = claim-left c e in
       record {
@@ -186,7 +183,7 @@ module _ {img scr : List ℕ} {p : ℕ} {r : Bool} {mid : List ℕ} (c : Claimed
         });
       }
 
-  pub pages-then : r ≡ true → (first : ℕ) → first ≡ be32 (pg img p) 4 → {a : Claims} {out chart : List ℕ} → ContsClaimed img mid first a out chart → PagesClaimed img scr p a out chart
+  pub pages-then : r ≡ true → (first : ℕ) → first ≡ be32 (pg img p) 4 → {a : Option ℕ} {out chart : List ℕ} → ContsClaimed img mid first a out chart → PagesClaimed img scr p a out chart
   pages-then e first is {chart = chart} f =
       record { found = pages-all e first is f.found; charted = λ m q. subst (λ (n : ℕ). Charted img n m chart) is (f.charted m q) }
 

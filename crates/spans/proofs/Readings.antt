@@ -5,6 +5,7 @@ use mathlib.Core.Path.{◌≡◌, refl, ap, sym, ◌∙◌, subst}
 use mathlib.Core.List.{List, [], ◌∷◌, map}
 use lib.ListN.{length, drop, length-drop}
 use lib.Seq.{drop-drop, drop_at}
+use Rattle.std.proofs.Common.{Option, Some, None}
 use Rattle.blockfile.specs.Bytes.{pg, be16, be32, Every, first_of}
 use Rattle.blockfile.specs.Layout.{Entry, entries_end, reached}
 use Rattle.blockfile.specs.Fields.{AreConts}
@@ -12,15 +13,12 @@ use Rattle.laws.proofs.Pages.{length-pg}
 use Rattle.pages.specs.Places.{Number}
 use Rattle.heads.specs.Claims.{Lent, InHead}
 use Rattle.heads.proofs.Claims.{in_head}
-use Rattle.entries.specs.declared.place.Place.{Place}
 use Rattle.entries.specs.Places.{IsPage, stream_of, Rest}
 use Rattle.entries.proofs.Rests.{length-stream, conts-one, rest_in}
 use Rattle.entries.proofs.Keys.{key_one}
 use Rattle.spans.specs.declared.entry.Last.{Last}
-use Rattle.spans.specs.declared.entry.Entered.{Entered}
-use Rattle.spans.specs.declared.entry.Entered.TheVariants.{Bad, Read}
+use Rattle.spans.specs.declared.entry.Position.{Position}
 use Rattle.spans.specs.declared.span.Spanned.{Spanned}
-use Rattle.spans.specs.declared.span.Spanned.TheVariants.{Wrong, Right}
 use Rattle.order.specs.declared.sort.Sort.{Sort}
 use Rattle.spans.specs.Entries.{last_key, taken, key_of, Run, LastIs, Ready, Ended, Ends, Entering}
 use Rattle.spans.specs.Charts.{Charted, Spread}
@@ -101,7 +99,7 @@ module _ {sort : Sort} {img : List ℕ} {p more : ℕ} {l : Last} (r : ReadySpan
 
   module _ (prev z : ℕ) where
     -- what is shown of these continuation pages and this last key is shown of all
-    all_of : (a : Spanned) → SpanSays sort img p r.conts prev z r.low a → Reading sort img p prev z l a
+    all_of : (a : Option Spanned) → SpanSays sort img p r.conts prev z r.low a → Reading sort img p prev z l a
     all_of a x = record {
       is = λ conts low c k.
           subst (λ (y : List ℕ). SpanSays sort img p conts prev z y a) (key_one img l.at l.length r.low low r.key.there k.there)
@@ -109,15 +107,15 @@ module _ {sort : Sort} {img : List ℕ} {p more : ℕ} {l : Last} (r : ReadySpan
           (conts-one img r.conts conts r.pages.inside c.inside (sym r.pages.linked ∙ c.linked) r.pages.are c.are) x);
     }
 
-    pub read-other : {g : ℕ} → Number (be32 (pg img p) 8) 4294967296 g → (g ≡ prev → ⊥) → Reading sort img p prev z l Wrong
-    read-other g n = all_of Wrong (λ es next b. n (g.is ∙ b.bears.prev))
+    pub read-other : {g : ℕ} → Number (be32 (pg img p) 8) 4294967296 g → (g ≡ prev → ⊥) → Reading sort img p prev z l None
+    read-other g n = all_of None (λ es next b. n (g.is ∙ b.bears.prev))
 
-    pub read-max : {m : ℕ} → Number (be16 (pg img p) 16) 65536 m → (m ≡ z → ⊥) → Reading sort img p prev z l Wrong
-    read-max m n = all_of Wrong (λ es next b. n (m.is ∙ b.bears.max_keys))
+    pub read-max : {m : ℕ} → Number (be16 (pg img p) 16) 65536 m → (m ≡ z → ⊥) → Reading sort img p prev z l None
+    read-max m n = all_of None (λ es next b. n (m.is ∙ b.bears.max_keys))
 
     module _ {n : ℕ} (e : Number (be16 (pg img p) 18) 65536 n) where
-      pub read-over : z < n → Reading sort img p prev z l Wrong
-      read-over h = all_of Wrong (λ es next b. omega (arith, e.is, b.bears.size, b.ok.size))
+      pub read-over : z < n → Reading sort img p prev z l None
+      read-over h = all_of None (λ es next b. omega (arith, e.is, b.bears.size, b.ok.size))
 
       -- the run that the entries of a span are, and where it ends
       record Ran (es : List Entry) : Type 0 where
@@ -137,30 +135,30 @@ module _ {sort : Sort} {img : List ℕ} {p more : ℕ} {l : Last} (r : ReadySpan
             inside = end;
           }
 
-      module _ {a : Entered} (x : Entering sort img (record { page = p; offset = 20 }) l n a) where
-        told : (b : Entered) → a ≡ b → Ends sort img (drop 12 st) r.low n b
+      module _ {a : Option Position} (x : Entering sort img (record { page = p; offset = 20 }) l n a) where
+        told : (b : Option Position) → a ≡ b → Ends sort img (drop 12 st) r.low n b
         told b f = subst (Ends sort img (drop 12 st) r.low n) f (x.is (drop 12 st) r.low from-20 r.key)
 
-        pub read-bad : a ≡ Bad → Reading sort img p prev z l Wrong
-        read-bad f = all_of Wrong (λ es next b. told Bad f (drop (entries_end 12 es) st) (last_key r.low es) (ran es next b).run)
+        pub read-bad : a ≡ None → Reading sort img p prev z l None
+        read-bad f = all_of None (λ es next b. told None f (drop (entries_end 12 es) st) (last_key r.low es) (ran es next b).run)
 
-        module _ {at : Place} {left : ℕ} {k : Last} (f : a ≡ Read at left k) where
-          d : Ended sort img (drop 12 st) r.low n at left k
-          d = told (Read at left k) f
+        module _ {to : Position} (f : a ≡ Some to) where
+          d : Ended sort img (drop 12 st) r.low n to.at to.left to.last
+          d = told (Some to) f
 
-          pub read-spare : 1016 ≤ left → Reading sort img p prev z l Wrong
-          read-spare h = all_of Wrong (λ es next b.
+          pub read-spare : 1016 ≤ to.left → Reading sort img p prev z l None
+          read-spare h = all_of None (λ es next b.
               let y : Ran es = ran es next b in
               let q : d.bytes ≡ drop (entries_end 12 es) st = run-one sort n (drop 12 st) r.low d.bytes d.hi (drop (entries_end 12 es) st) (last_key r.low es) d.run y.run in
               omega (arith, ap length q, length-drop (entries_end 12 es) st, whole, d.long, y.after, y.inside))
 
-          pub read_done : left < 1016 → n ≤ z → {m : ℕ} → Number (be16 (pg img p) 16) 65536 m → m ≡ z → {g : ℕ} → Number (be32 (pg img p) 8) 4294967296 g → g ≡ prev
-              → {next : ℕ} → Number (be32 (pg img p) 12) 4294967296 next → Reading sort img p prev z l (Right n next k)
+          pub read_done : to.left < 1016 → n ≤ z → {m : ℕ} → Number (be16 (pg img p) 16) 65536 m → m ≡ z → {g : ℕ} → Number (be32 (pg img p) 8) 4294967296 g → g ≡ prev
+              → {next : ℕ} → Number (be32 (pg img p) 12) 4294967296 next → Reading sort img p prev z l (Some (record { size = n; next = next; last = to.last }))
           unfolding reached
           read_done h most {m} mi mz {g} gi gp {next} ni =
               let y : Listed sort st (1 + length r.conts) whole 12 r.low n d.bytes d.hi
               = run-listed sort st (1 + length r.conts) whole n 12 r.low d.bytes d.hi (omega (arith, whole)) d.run in
-              all_of (Right n next k) (record {
+              all_of (Some (record { size = n; next = next; last = to.last })) (record {
                 entries = y.es;
                 is = record {
                   bears = record {
@@ -182,5 +180,5 @@ module _ {sort : Sort} {img : List ℕ} {p more : ℕ} {l : Last} (r : ReadySpan
                   };
                 };
                 count = sym y.count;
-                key = subst (LastIs sort img k) y.last d.key;
+                key = subst (LastIs sort img to.last) y.last d.key;
               })

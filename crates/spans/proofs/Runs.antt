@@ -10,6 +10,7 @@ use lib.ListN.{length, take, drop, get_or, length-drop}
 use lib.Seq.{drop-drop}
 use lib.Dec.{T, ltb, eqb→eq}
 use borrow.Author.Tests.{ltb-true, ltb-false, eq-eqb, ne_eqb, lt-ltb, le-ltb}
+use Rattle.std.proofs.Common.{Option, Some, None}
 use Rattle.blockfile.specs.Bytes.{pg, be16, be32}
 use Rattle.blockfile.specs.Order.{bytes_below, numbers_below}
 use Rattle.blockfile.proofs.Bools.{so, not_so, and_both, both-and}
@@ -33,12 +34,10 @@ use Rattle.entries.proofs.Places.{gap-next, gap_here, settle-here, lengths-done}
 use Rattle.entries.proofs.Keys.{key_one, key-length}
 use Rattle.entries.proofs.Prefixes.{key-bytes-are, rank-itself}
 use Rattle.spans.specs.declared.entry.Last.{Last}
-use Rattle.spans.specs.declared.entry.Entered.{Entered}
-use Rattle.spans.specs.declared.entry.Entered.TheVariants.{Bad, Read}
+use Rattle.spans.specs.declared.entry.Position.{Position}
 use Rattle.spans.specs.declared.entry.Tried.{Tried}
-use Rattle.spans.specs.declared.entry.Tried.TheVariants.{On}
 use Rattle.spans.specs.declared.entry.Passed.{Passed}
-use Rattle.spans.specs.Entries.{fits, four_as, LastIs, Met, IsAbove, skip, key_length, value_length, key_of, taken, Run, Ready, Ended, Ends, Entering, on_page, last_at, ReadOnPage, Tries, Skimming, Skims}
+use Rattle.spans.specs.Entries.{fits, four_as, LastIs, Met, IsAbove, skip, key_length, value_length, key_of, taken, Run, Ready, Ended, Ends, position, Entering, on_page, last_at, ReadOnPage, Tries, Skimming, Skims}
 use Rattle.spans.proofs.Sorts.{fits-key, both-fit}
 use Rattle.spans.proofs.Rules.{allowed-four, four-allowed, lengths-allow}
 
@@ -149,7 +148,7 @@ rank-is-above {sort} bytes {n = n} some four e h =
 
 module _ {sort : Sort} {img : List ℕ} {at : Place} {left : ℕ} {l : Last} (r : Ready sort img at left l) where
   -- what is shown of one rest and one last key is shown of all
-  all_of : (n : ℕ) (a : Entered) → Ends sort img r.bytes r.low n a → Entering sort img at l n a
+  all_of : (n : ℕ) (a : Option Position) → Ends sort img r.bytes r.low n a → Entering sort img at l n a
   all_of n a e = record {
     is = λ s low u v.
         subst (λ (k : List ℕ). Ends sort img s k n a) (key_one img l.at l.length r.low low r.key.there v.there)
@@ -160,9 +159,9 @@ module _ {sort : Sort} {img : List ℕ} {at : Place} {left : ℕ} {l : Last} (r 
     g-is : g ≡ skip r.bytes
     g-is = is ∙ gap-skip img at r.bytes r.rest
 
-    pub entry-short : left < g + 4 → Entering sort img at l 1 Bad
+    pub entry-short : left < g + 4 → Entering sort img at l 1 None
     unfolding taken
-    entry-short h = all_of 1 Bad (λ t hi x. omega (arith, x.0, g-is, r.long))
+    entry-short h = all_of 1 None (λ t hi x. omega (arith, x.0, g-is, r.long))
 
     pub entry-enough : g + 4 ≤ left → Enough img at (gap at.offset 4 + 4)
     entry-enough h = record { bytes = r.bytes; rest = r.rest; long = omega (arith, is, r.long) }
@@ -176,9 +175,9 @@ module _ {sort : Sort} {img : List ℕ} {at : Place} {left : ℕ} {l : Last} (r 
       unfolding value_length
       v-is = m.value r.bytes r.rest ∙ rw (sym is ∙ g-is)
 
-      pub entry-over : left - g - 4 < z.key + z.value → Entering sort img at l 1 Bad
+      pub entry-over : left - g - 4 < z.key + z.value → Entering sort img at l 1 None
       unfolding taken
-      entry-over h = all_of 1 Bad (λ t hi x. omega (arith, x.0, g-is, k-is, v-is, r.long))
+      entry-over h = all_of 1 None (λ t hi x. omega (arith, x.0, g-is, k-is, v-is, r.long))
 
       module _ (inside : z.key + z.value ≤ left - g - 4) where
         there : Rest img z.after (drop (skip r.bytes + 4) r.bytes)
@@ -195,9 +194,9 @@ module _ {sort : Sort} {img : List ℕ} {at : Place} {left : ℕ} {l : Last} (r 
           a-is : a ≡ (four_as sort z.key && (rule_as sort).below r.low (key_of r.bytes))
           a-is = c.is r.low (key_of r.bytes) r.key entry_key
 
-          pub entry-not : a ≡ false → Entering sort img at l 1 Bad
+          pub entry-not : a ≡ false → Entering sort img at l 1 None
           entry-not e =
-              all_of 1 Bad (λ t hi x.
+              all_of 1 None (λ t hi x.
               let four : T (four_as sort z.key) = subst (λ (n : ℕ). T (four_as sort n)) (key-length entry_key) (allowed-four sort (key_of r.bytes) (fits-key sort (key_of r.bytes) (value_length r.bytes) x.1.1)) in
               subst T (sym a-is ∙ e) (both-and (four_as sort z.key) ((rule_as sort).below r.low (key_of r.bytes)) four x.1.0))
 
@@ -216,11 +215,11 @@ module _ {sort : Sort} {img : List ℕ} {at : Place} {left : ℕ} {l : Last} (r 
                 (omega (arith, m.value_below, v-is))
 
             pub entry_done : {p : Place} → Moved img z.after (z.key + z.value) p → {q : ℕ} → RankMost sort img z.after z.key q
-                → {rest : ℕ} → rest ≡ left - g - 4 - (z.key + z.value) → Entering sort img at l 1 (Read p rest (record { at = z.after; length = z.key; rank = q }))
+                → {rest : ℕ} → rest ≡ left - g - 4 - (z.key + z.value) → Entering sort img at l 1 (Some (position p rest (record { at = z.after; length = z.key; rank = q })))
             unfolding taken
             entry_done {p} v {q} most {rest} e =
                 let sum : taken r.bytes ≡ skip r.bytes + 4 + (z.key + z.value) = omega (arith, k-is, v-is) in
-                all_of 1 (Read p rest (record { at = z.after; length = z.key; rank = q })) (record {
+                all_of 1 (Some (position p rest (record { at = z.after; length = z.key; rank = q }))) (record {
                   bytes = drop (taken r.bytes) r.bytes;
                   hi = key_of r.bytes;
                   run = (omega (arith, sum, g-is, r.long), (both.1, fine), (refl, refl));
@@ -275,7 +274,7 @@ module _ {img : List ℕ} {at : Place} (e : Enough img at 0) (eight : at.offset 
               let sum : at.offset + 4 + (k + v) ≡ at.offset + 4 + k + v = omega arith in
               let moved : Moved img (on_page at (at.offset + 4)) (k + v) (on_page at (at.offset + 4 + k + v))
               = record { to = λ s t. subst (λ (o : ℕ). Rest img (on_page at o) (drop (k + v) s)) sum (rest_in img (on_page at (at.offset + 4)) s t (k + v) (omega arith)) } in
-              subst (λ (n : ℕ). Entering sort img at l 1 (Read (on_page at (at.offset + 4 + k + v)) (left - (at.offset + 4 + k + v - at.offset)) (record { at = on_page at (at.offset + 4); length = n; rank = p }))) a.is
+              subst (λ (n : ℕ). Entering sort img at l 1 (Some (position (on_page at (at.offset + 4 + k + v)) (left - (at.offset + 4 + k + v - at.offset)) (record { at = on_page at (at.offset + 4); length = n; rank = p })))) a.is
               (entry_done r none measured (omega arith) (omega arith) up refl moved (rank-itself ranked) (omega arith));
         }
 
@@ -320,21 +319,21 @@ module _ {sort : Sort} {img : List ℕ} {from : Place} {last : Last} {at : Place
   pub walking-ready : Ready sort img at left l
   walking-ready = record { bytes = w.read.bytes; rest = w.read.rest; long = w.read.long; low = w.read.hi; key = w.read.key }
 
-  pub walking-end : {n : ℕ} → i ≡ n → Entering sort img from last n (Read at left l)
-  walking-end {n} e = rw (← e) (all_of w.start i (Read at left l) w.read)
+  pub walking-end : {n : ℕ} → i ≡ n → Entering sort img from last n (Some (position at left l))
+  walking-end {n} e = rw (← e) (all_of w.start i (Some (position at left l)) w.read)
 
-  module _ {n : ℕ} {a : Entered} (e : Entering sort img at l n a) where
-    pub walking-no : a ≡ Bad → {size : ℕ} → i + n ≤ size → Entering sort img from last size Bad
+  module _ {n : ℕ} {a : Option Position} (e : Entering sort img at l n a) where
+    pub walking-no : a ≡ None → {size : ℕ} → i + n ≤ size → Entering sort img from last size None
     walking-no is {size} few =
         let s : List ℕ = w.start.bytes in
         let low : List ℕ = w.start.low in
         let all : size ≡ i + (n + (size - i - n)) = omega arith in
-        all_of w.start size Bad (λ t hi x.
+        all_of w.start size None (λ t hi x.
         run-head sort n (size - i - n) w.read.bytes w.read.hi t hi
         (run-split sort i (n + (size - i - n)) s low w.read.bytes w.read.hi t hi w.read.run (rw all at x))
         ((subst (Entering sort img at l n) is e).is w.read.bytes w.read.hi w.read.rest w.read.key))
 
-    pub walking-more : {p : Place} {rest : ℕ} {k : Last} → a ≡ Read p rest k → {j : ℕ} → j ≡ i + n → Walking sort img from last p rest k j
+    pub walking-more : {p : Position} → a ≡ Some p → {j : ℕ} → j ≡ i + n → Walking sort img from last p.at p.left p.last j
     walking-more is {j} sum =
         let d = (subst (Entering sort img at l n) is e).is w.read.bytes w.read.hi w.read.rest w.read.key in
         rw sum (record {
@@ -377,16 +376,16 @@ module _ {sort : Sort} {img : List ℕ} {at : Place} {left : ℕ} {last : Last} 
   skimming-enough = let r = walking-ready skimming-walk in record { bytes = r.bytes; rest = r.rest; long = omega arith }
 
   -- one more
-  pub skimming-more : {a : Tried} → Tries sort img (on_page at end) rank a → {e q : ℕ} → a ≡ On e q
-      → Skimming sort img at left last (record { count = count + 1; before = end; end = e; rank = q })
-  skimming-more t {e} {q} is =
-      let o : ReadOnPage sort img (on_page at end) rank e q = (subst (Tries sort img (on_page at end) rank) is t).is in
-      let less : left - (end - at.offset) - (e - end) ≡ left - (e - at.offset) = omega (arith, o.some, w.low) in
+  pub skimming-more : {a : Option Tried} → Tries sort img (on_page at end) rank a → {x : Tried} → a ≡ Some x
+      → Skimming sort img at left last (record { count = count + 1; before = end; end = x.end; rank = x.rank })
+  skimming-more t {x} is =
+      let o : ReadOnPage sort img (on_page at end) rank x.end x.rank = (subst (Tries sort img (on_page at end) rank) is t).is in
+      let less : left - (end - at.offset) - (x.end - end) ≡ left - (x.end - at.offset) = omega (arith, o.some, w.low) in
       let read = walking-more skimming-walk (o.read (left - (end - at.offset)) w.key (walking-ready skimming-walk) w.ranked) refl refl in
       record {
         start = w.start;
-        key = last_at img (on_page at end) q;
-        read = subst (λ (n : ℕ). Entering sort img at last (count + 1) (Read (on_page at e) n (last_at img (on_page at end) q))) less (walking-end read refl);
+        key = last_at img (on_page at end) x.rank;
+        read = subst (λ (n : ℕ). Entering sort img at last (count + 1) (Some (position (on_page at x.end) n (last_at img (on_page at end) x.rank)))) less (walking-end read refl);
         ranked = refl;
         low = omega (arith, o.some, w.low);
         high = o.inside;
@@ -396,15 +395,15 @@ module _ {sort : Sort} {img : List ℕ} {at : Place} {left : ℕ} {last : Last} 
 
 -- what is told of them
 module _ {sort : Sort} {img : List ℕ} {at : Place} {left : ℕ} {last : Last} {p : Passed} (w : Skimming sort img at left last p) where
-  pub skims-none : p.count ≡ 0 → Skims sort img at last p.count (record { count = p.count; at = at; left = left; last = last })
+  pub skims-none : p.count ≡ 0 → Skims sort img at last p.count (record { count = p.count; to = position at left last })
   skims-none e =
       let n = w.none e in
       let same : left - (p.end - at.offset) ≡ left = omega (arith, n.0) in
       record {
         few = omega arith;
-        read = subst (λ (k : Last). Entering sort img at last p.count (Read at left k)) n.1
-            (subst (λ (o : ℕ). Entering sort img at last p.count (Read (on_page at o) left w.key)) n.0
-            (subst (λ (m : ℕ). Entering sort img at last p.count (Read (on_page at p.end) m w.key)) same w.read));
+        read = subst (λ (k : Last). Entering sort img at last p.count (Some (position at left k))) n.1
+            (subst (λ (o : ℕ). Entering sort img at last p.count (Some (position (on_page at o) left w.key))) n.0
+            (subst (λ (m : ℕ). Entering sort img at last p.count (Some (position (on_page at p.end) m w.key))) same w.read));
       }
 
   pub skims-left : p.end - at.offset ≤ left
@@ -416,11 +415,11 @@ module _ {sort : Sort} {img : List ℕ} {at : Place} {left : ℕ} {last : Last} 
 
     pub skims-some : {n : ℕ} → n ≡ be16 (pg img at.page) p.before
         → Skims sort img at last p.count
-        (record { count = p.count; at = on_page at p.end; left = left - (p.end - at.offset); last = record { at = on_page at (p.before + 4); length = n; rank = p.rank } })
+        (record { count = p.count; to = position (on_page at p.end) (left - (p.end - at.offset)) (record { at = on_page at (p.before + 4); length = n; rank = p.rank }) })
     skims-some {n} is =
         let s = w.some (omega (arith, some)) in
         record {
           few = omega arith;
-          read = subst (λ (k : Last). Entering sort img at last p.count (Read (on_page at p.end) (left - (p.end - at.offset)) k))
+          read = subst (λ (k : Last). Entering sort img at last p.count (Some (position (on_page at p.end) (left - (p.end - at.offset)) k)))
               (s.2 ∙ (λ i. record { at = on_page at (p.before + 4); length = sym is i; rank = p.rank })) w.read;
         }

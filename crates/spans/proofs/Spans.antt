@@ -5,6 +5,8 @@ use mathlib.Core.Path.{◌≡◌, refl, ap, ap₂, sym, ◌∙◌, subst}
 use mathlib.Core.List.{List, [], ◌∷◌, append-nil}
 use lib.ListN.{length}
 use lib.Seq.{slice}
+use Rattle.std.proofs.Common.{Option, Some, None}
+use Rattle.std.proofs.lemmas.Option.{none-some}
 use Rattle.blockfile.specs.Bytes.{pg, Every}
 use Rattle.blockfile.specs.Layout.{Entry, Span, lens_start, entry_end}
 use Rattle.blockfile.specs.Fields.{EntriesAt}
@@ -13,14 +15,11 @@ use Rattle.heads.specs.Claims.{Lent}
 use Rattle.walks.specs.Found.{Fresh, claims, Found, FindsAt}
 use Rattle.walks.proofs.Founds.{lent-claims, unclaimed-claims, unclaimed-most}
 use Rattle.entries.specs.Places.{IsPage, stream_of}
-use Rattle.spans.specs.declared.claims.Claims.{Claims}
-use Rattle.spans.specs.declared.claims.Claims.TheVariants.{Refused, Held}
 use Rattle.spans.specs.declared.entry.Last.{Last}
 use Rattle.spans.specs.declared.span.Spanned.{Spanned}
-use Rattle.spans.specs.declared.span.Spanned.TheVariants.{Wrong, Right}
 use Rattle.order.specs.declared.sort.Sort.{Sort}
 use Rattle.spans.specs.Entries.{last_key, LastIs, Met}
-use Rattle.spans.specs.Parts.{held, PagesFound, SpanPages, with_links, span_on, SpanIs, ReadySpan, SpanSays, SpanRight, Reading, SpanFound, Answered, VerifiedAll}
+use Rattle.spans.specs.Parts.{PagesFound, SpanPages, with_links, span_on, SpanIs, ReadySpan, SpanSays, SpanRight, Reading, SpanFound, Answered, VerifiedAll}
 use Rattle.spans.proofs.PageClaims.{inside-fresh}
 
 -- ---- one piece
@@ -74,8 +73,8 @@ pages-of {img} {scr} {p} lent x =
     let all : Every (IsPage img) (p ∷ x.conts) = inside-fresh img scr (p ∷ x.conts) lent.room x.fresh in
     record { small = omega (arith, lent.room.size, lent.room.most); page = all.0; marked = x.marked; linked = x.linked; are = x.are; inside = all.1 }
 
-module _ {img scr : List ℕ} {p : ℕ} (lent : Lent img scr) {a : Claims} {s : List ℕ} (f : FindsAt held (PagesFound img scr p) a s) where
-  pub verify-ready : {m : ℕ} → a ≡ Held m → {sort : Sort} {l : Last} → Met sort img l → ReadySpan sort img p m l
+module _ {img scr : List ℕ} {p : ℕ} (lent : Lent img scr) {a : Option ℕ} {s : List ℕ} (f : FindsAt Some (PagesFound img scr p) a s) where
+  pub verify-ready : {m : ℕ} → a ≡ Some m → {sort : Sort} {l : Last} → Met sort img l → ReadySpan sort img p m l
   verify-ready {m} e k =
       let y : PagesFound img scr p m s = f.sound m e in
       record {
@@ -88,7 +87,7 @@ module _ {img scr : List ℕ} {p : ℕ} (lent : Lent img scr) {a : Claims} {s : 
       }
 
   -- the scratch after the claims
-  pub verify-lent : {m : ℕ} → a ≡ Held m → Lent img s
+  pub verify-lent : {m : ℕ} → a ≡ Some m → Lent img s
   verify-lent {m} e = let y : PagesFound img scr p m s = f.sound m e in subst (Lent img) (sym y.left) (lent-claims (p ∷ y.conts) y.fresh lent)
 
   module _ {sort : Sort} {prev z : ℕ} where
@@ -104,28 +103,28 @@ module _ {img scr : List ℕ} {p : ℕ} (lent : Lent img scr) {a : Claims} {s : 
       unfolding pages-found
       pages-p = subst (λ (q : ℕ). SpanPages img q sp.conts) x.named (pages-of lent (pages-found (at-page x)))
 
-    pub verify-no : {l : Last} → a ≡ Refused → VerifiedAll sort img scr p prev z l Wrong s
+    pub verify-no : {l : Last} → a ≡ None → VerifiedAll sort img scr p prev z l None s
     verify-no e = record {
       is = λ low k. record {
-        sound = λ n next h q. absurd (let y : ◌≡◌ {A = ℕ} 0 1 = cc in omega arith);
+        sound = λ b q. absurd (none-some b q);
         complete = λ sp next t x.
-            let d : (a ≡ held (length sp.conts)) × (s ≡ t) = f.complete (length sp.conts) t (on-p x) in
-            absurd (let y : ◌≡◌ {A = ℕ} 0 1 = cc (d.0, e) in omega arith);
+            let d : (a ≡ Some (length sp.conts)) × (s ≡ t) = f.complete (length sp.conts) t (on-p x) in
+            absurd (none-some (length sp.conts) (sym e ∙ d.0));
       };
     }
 
-    pub verify-done : {m : ℕ} → a ≡ Held m → {l : Last} {r : Spanned} → Reading sort img p prev z l r → VerifiedAll sort img scr p prev z l r s
+    pub verify-done : {m : ℕ} → a ≡ Some m → {l : Last} {r : Option Spanned} → Reading sort img p prev z l r → VerifiedAll sort img scr p prev z l r s
     verify-done {m} e {r = r} x = record {
       is = λ low k. record {
-        sound = λ n next h q.
+        sound = λ b q.
             let y : PagesFound img scr p m s = f.sound m e in
-            let w : SpanRight sort img p y.conts prev z low n next h = subst (SpanSays sort img p y.conts prev z low) q (x.is y.conts low (pages-of lent y) k) in
+            let w : SpanRight sort img p y.conts prev z low b = subst (SpanSays sort img p y.conts prev z low) q (x.is y.conts low (pages-of lent y) k) in
             record {
               sp = span_on p y.conts w.entries;
               found = record {
                 named = refl;
                 ok = w.is.ok;
-                found = one_found img scr (span (with_links (span_on p y.conts w.entries) prev next z)) s w.is.bears y.fresh y.left;
+                found = one_found img scr (span (with_links (span_on p y.conts w.entries) prev b.next z)) s w.is.bears y.fresh y.left;
               };
               count = w.count;
               key = w.key;
@@ -135,9 +134,14 @@ module _ {img scr : List ℕ} {p : ℕ} (lent : Lent img scr) {a : Claims} {s : 
     }
       where
         go : (low : List ℕ) (sp : Span) (next : ℕ) (t : List ℕ) → SpanIs sort img prev z low (span_on p sp.conts sp.entries) next
-            → (r : Spanned) → SpanSays sort img p sp.conts prev z low r → s ≡ t → Answered sort img low sp next t r s
-        go low sp next t b Wrong w q = absurd (w sp.entries next b)
-        go low sp next t b (Right n other h) w q =
-            let o : (w.entries ≡ sp.entries) × (other ≡ next) = span-one w.is b in
-            let c : n ≡ length sp.entries = w.count ∙ ap length o.0 in
-            record { last = h; is = cc (o.1, c); left = q; key = subst (λ (es : List Entry). LastIs sort img h (last_key low es)) o.0 w.key }
+            → (r : Option Spanned) → SpanSays sort img p sp.conts prev z low r → s ≡ t → Answered sort img low sp next t r s
+        go low sp next t b None w q = absurd (w sp.entries next b)
+        go low sp next t b (Some a) w q =
+            let o : (w.entries ≡ sp.entries) × (a.next ≡ next) = span-one w.is b in
+            let c : a.size ≡ length sp.entries = w.count ∙ ap length o.0 in
+            record {
+              last = a.last;
+              is = λ i. Some (record { size = c i; next = o.1 i; last = a.last });
+              left = q;
+              key = subst (λ (es : List Entry). LastIs sort img a.last (last_key low es)) o.0 w.key;
+            }

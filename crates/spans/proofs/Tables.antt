@@ -4,6 +4,7 @@ use native.Mathlib.Omega.{arith}
 use mathlib.Core.Path.{◌≡◌, refl, sym, ◌∙◌}
 use mathlib.Core.List.{List, [], ◌∷◌}
 use lib.ListN.{length, length-append}
+use Rattle.std.proofs.Common.{Option, Some, None}
 use Rattle.blockfile.specs.Bytes.{Every}
 use Rattle.blockfile.specs.Layout.{Entry, Span}
 use Rattle.blockfile.proofs.Every.{every-so}
@@ -12,9 +13,8 @@ use Rattle.walks.specs.Found.{unclaimed, FindsAt}
 use Rattle.walks.proofs.Founds.{found_none, SameAt, finds-none, finds-done}
 use Rattle.spans.specs.declared.entry.Last.{Last}
 use Rattle.spans.specs.declared.span.Spanned.{Spanned}
-use Rattle.spans.specs.declared.span.Spanned.TheVariants.{Wrong, Right}
-use Rattle.spans.specs.declared.Counted.TheVariants.{Broken, Whole}
-use Rattle.spans.specs.Spans.{entries_in, Counts, whole, SpansFound}
+use Rattle.spans.specs.declared.Counted.{Counted}
+use Rattle.spans.specs.Spans.{entries_in, SpansFound}
 use Rattle.order.specs.declared.sort.Sort.{Sort}
 use Rattle.spans.specs.Entries.{LastIs, Met}
 use Rattle.spans.specs.Parts.{Verified, VerifiedAll, ChainFound, SpansFrom}
@@ -34,7 +34,7 @@ none-met sort img l e h =
 
 -- ---- a chain from above no key on is a table's spans
 
-module _ {sort : Sort} {img scr : List ℕ} {z p : ℕ} {a : Counts} {s : List ℕ} where
+module _ {sort : Sort} {img scr : List ℕ} {z p : ℕ} {a : Counted} {s : List ℕ} where
   found_of : SpansFrom sort img scr z p 0 [] 0 0 a s → SpansFound sort img scr z p a s
   found_of x =
       let es : List Entry = entries_in (x.here ∷ x.others) in
@@ -97,35 +97,32 @@ counting-start sort {img} z scr start l none least lent =
       same = record { to = λ a s. found_of; back = λ a s. of-found };
     }
 
-whole-one : (a b : Counts) → whole a ≡ whole b → a ≡ b
-whole-one a b e = let k : a.keys ≡ b.keys = cc in let n : a.spans ≡ b.spans = cc in λ i. record { keys = k i; spans = n i }
-
 module _ {sort : Sort} {img : List ℕ} {z : ℕ} {scr₀ : List ℕ} {start : ℕ} {scr : List ℕ} {p prev : ℕ} {l : Last} {keys spans : ℕ}
-    (w : Counting sort img z scr₀ start scr p prev l keys spans) {a : Spanned} {s : List ℕ} (va : VerifiedAll sort img scr p prev z l a s) where
+    (w : Counting sort img z scr₀ start scr p prev l keys spans) {a : Option Spanned} {s : List ℕ} (va : VerifiedAll sort img scr p prev z l a s) where
   v : Verified sort img scr p prev z w.met.low a s
   v = va.is w.met.low w.met.key
 
-  broken : ((b : Counts) (t : List ℕ) → SpansFrom sort img scr z p prev w.met.low keys spans b t → ⊥) → FindsAt whole (SpansFound sort img scr₀ z start) Broken s
-  broken never = finds-none whole Broken s w.same (λ b q. let x : ◌≡◌ {A = ℕ} 0 1 = cc in omega arith) never
+  broken : ((b : Counted) (t : List ℕ) → SpansFrom sort img scr z p prev w.met.low keys spans b t → ⊥) → FindsAt Some (SpansFound sort img scr₀ z start) None s
+  broken never = finds-none w.same never
 
-  pub counting-wrong : a ≡ Wrong → FindsAt whole (SpansFound sort img scr₀ z start) Broken s
+  pub counting-wrong : a ≡ None → FindsAt Some (SpansFound sort img scr₀ z start) None s
   counting-wrong e = broken (λ b t x. chain-not v e x.chain)
 
-  module _ {n next : ℕ} {k : Last} (e : a ≡ Right n next k) where
-    pub counting-empty : n ≡ 0 → 1 ≤ spans → FindsAt whole (SpansFound sort img scr₀ z start) Broken s
+  module _ {y : Spanned} (e : a ≡ Some y) where
+    pub counting-empty : y.size ≡ 0 → 1 ≤ spans → FindsAt Some (SpansFound sort img scr₀ z start) None s
     counting-empty h m = broken (λ b t x. omega (arith, (onward v e x.chain).count, x.some m))
 
-    pub counting-fell : z ≤ 128 → Fell n scr s
+    pub counting-fell : z ≤ 128 → Fell y.size scr s
     counting-fell = fell v e
 
-    module _ (ok : 1 ≤ spans → n ≡ 0 → ⊥) where
+    module _ (ok : 1 ≤ spans → y.size ≡ 0 → ⊥) where
       some : 1 ≤ spans → 1 ≤ length (told v e).sp.entries
       some h = let t = told v e in let d = ok h in omega (arith, t.count)
 
-      pub counting-end : next ≡ 0 → FindsAt whole (SpansFound sort img scr₀ z start) (Whole (keys + n) (spans + 1)) s
+      pub counting-end : y.next ≡ 0 → FindsAt Some (SpansFound sort img scr₀ z start) (Some (record { keys = keys + y.size; spans = spans + 1 })) s
       counting-end h =
           let t = told v e in
-          finds-done whole (Whole (keys + n) (spans + 1)) s w.same whole-one (record { keys = keys + n; spans = spans + 1 }) refl
+          finds-done w.same (record { keys = keys + y.size; spans = spans + 1 })
           (record {
             here = t.sp;
             others = [];
@@ -137,16 +134,16 @@ module _ {sort : Sort} {img : List ℕ} {z : ℕ} {scr₀ : List ℕ} {start : �
           })
           (λ b u x. only b u x.here x.others (onward v e x.chain).count (onward v e x.chain).chain x.keys_are x.spans_are)
         where
-          only : (b : Counts) (u : List ℕ) (sp : Span) (ss : List Span) → n ≡ length sp.entries → ChainFound sort img s z next p (hi v e) ss u
+          only : (b : Counted) (u : List ℕ) (sp : Span) (ss : List Span) → y.size ≡ length sp.entries → ChainFound sort img s z y.next p (hi v e) ss u
               → b.keys ≡ keys + length (entries_in (sp ∷ ss)) → b.spans ≡ spans + length (sp ∷ ss)
-              → (◌≡◌ {A = Counts} (record { keys = keys + n; spans = spans + 1 }) b) × (s ≡ u)
-          only b u sp [] m c i j =
-              let x : keys + n ≡ b.keys = omega (arith, length-append sp.entries []) in
-              let y : spans + 1 ≡ b.spans = omega arith in
-              ((λ k. record { keys = x k; spans = y k }), sym c.found.left)
-          only b u sp (q ∷ ss) m c i j = absurd (omega (arith, c.named, c.found.fresh.0.low))
+              → (◌≡◌ {A = Counted} (record { keys = keys + y.size; spans = spans + 1 }) b) × (s ≡ u)
+          only b u sp [] n c i j =
+              let x : keys + y.size ≡ b.keys = omega (arith, length-append sp.entries []) in
+              let m : spans + 1 ≡ b.spans = omega arith in
+              ((λ k. record { keys = x k; spans = m k }), sym c.found.left)
+          only b u sp (q ∷ ss) n c i j = absurd (omega (arith, c.named, c.found.fresh.0.low))
 
-      pub counting-next : (next ≡ 0 → ⊥) → z ≤ 128 → Counting sort img z scr₀ start s next p k (keys + n) (spans + 1)
+      pub counting-next : (y.next ≡ 0 → ⊥) → z ≤ 128 → Counting sort img z scr₀ start s y.next p y.last (keys + y.size) (spans + 1)
       counting-next nz most =
           let t = told v e in
           let u = counting-fell most in
@@ -166,12 +163,12 @@ module _ {sort : Sort} {img : List ℕ} {z : ℕ} {scr₀ : List ℕ} {start : �
                 keys_are = omega (arith, x.keys_are, t.count, length-append t.sp.entries (entries_in (x.here ∷ x.others)));
                 spans_are = omega (arith, x.spans_are);
               });
-              back = λ b out x. let y = w.same.back b out x in let o = onward v e y.chain in on b out y.here y.others o.count o.chain y.filled y.keys_are y.spans_are;
+              back = λ b out x. let g = w.same.back b out x in let o = onward v e g.chain in on b out g.here g.others o.count o.chain g.filled g.keys_are g.spans_are;
             };
           }
         where
-          on : (b : Counts) (out : List ℕ) (sp : Span) (ss : List Span) → n ≡ length sp.entries → ChainFound sort img s z next p (hi v e) ss out → Every (λ x. 1 ≤ length x.entries) ss
-              → b.keys ≡ keys + length (entries_in (sp ∷ ss)) → b.spans ≡ spans + length (sp ∷ ss) → SpansFrom sort img s z next p (hi v e) (keys + n) (spans + 1) b out
+          on : (b : Counted) (out : List ℕ) (sp : Span) (ss : List Span) → y.size ≡ length sp.entries → ChainFound sort img s z y.next p (hi v e) ss out → Every (λ x. 1 ≤ length x.entries) ss
+              → b.keys ≡ keys + length (entries_in (sp ∷ ss)) → b.spans ≡ spans + length (sp ∷ ss) → SpansFrom sort img s z y.next p (hi v e) (keys + y.size) (spans + 1) b out
           on b out sp [] m c f i j = absurd (nz (sym c.named))
           on b out sp (q ∷ ss) m c f i j =
               record {

@@ -1,5 +1,5 @@
 -- Entries as a walk meets them: read off what is left of a stream of whole pages.
-use Rattle.std.specs.Prelude.{ℕ, zero, suc, ◌+◌, ◌-◌, ◌%◌, ◌≤◌, ◌≡◌, Bool, true, cond, ◌&&◌, List, [], ◌∷◌, length, take, drop, T, leb, ltb, eqb}
+use Rattle.std.specs.Prelude.{Option, Some, None, ℕ, zero, suc, ◌+◌, ◌-◌, ◌%◌, ◌≤◌, ◌≡◌, Bool, true, cond, ◌&&◌, List, [], ◌∷◌, length, take, drop, T, leb, ltb, eqb}
 use Rattle.blockfile.specs.Bytes.{pg, be16}
 use Rattle.blockfile.specs.Layout.{Entry}
 use Rattle.order.specs.declared.sort.Sort.{Sort}
@@ -9,12 +9,10 @@ use Rattle.entries.specs.declared.place.Place.{Place}
 use Rattle.entries.specs.Places.{Rest}
 use Rattle.entries.specs.Keys.{KeyAt}
 use Rattle.spans.specs.declared.entry.Last.{Last}
-use Rattle.spans.specs.declared.entry.Entered.{Entered}
-use Rattle.spans.specs.declared.entry.Entered.TheVariants.{Bad, Read}
+use Rattle.spans.specs.declared.entry.Position.{Position}
 use Rattle.spans.specs.declared.entry.Passed.{Passed}
 use Rattle.spans.specs.declared.entry.Skimmed.{Skimmed}
 use Rattle.spans.specs.declared.entry.Tried.{Tried}
-use Rattle.spans.specs.declared.entry.Tried.TheVariants.{Left, On}
 
 -- a key may stand in a table whose keys sort so, with a value of v bytes
 abbrev pub fits : Sort → (k : List ℕ) (v : ℕ) → Bool
@@ -93,12 +91,16 @@ pub record Ended (sort : Sort) (img s low : List ℕ) (n : ℕ) (at : Place) (le
   pub long : left ≡ length bytes
   pub key : LastIs sort img l hi
 
-abbrev pub Ends : Sort → (img s low : List ℕ) (n : ℕ) → Entered → Type 0
-Ends sort img s low n Bad = (t hi : List ℕ) → Run sort s low n t hi → ⊥
-Ends sort img s low n (Read at left l) = Ended sort img s low n at left l
+abbrev pub Ends : Sort → (img s low : List ℕ) (n : ℕ) → Option Position → Type 0
+Ends sort img s low n None = (t hi : List ℕ) → Run sort s low n t hi → ⊥
+Ends sort img s low n (Some p) = Ended sort img s low n p.at p.left p.last
+
+-- a position by its parts
+abbrev pub position : Place → (left : ℕ) → Last → Position
+position at n l = record { at = at; left = n; last = l }
 
 -- the answer for n entries that follow the place, whatever stands there
-pub record Entering (sort : Sort) (img : List ℕ) (at : Place) (l : Last) (n : ℕ) (r : Entered) : Type 0 where
+pub record Entering (sort : Sort) (img : List ℕ) (at : Place) (l : Last) (n : ℕ) (r : Option Position) : Type 0 where
   pub is : (s low : List ℕ) → Rest img at s → LastIs sort img l low → Ends sort img s low n r
 
 -- ---- Entries on one page
@@ -116,21 +118,21 @@ pub record ReadOnPage (sort : Sort) (img : List ℕ) (at : Place) (high end rank
   pub some : at.offset + 4 ≤ end
   pub inside : end ≤ 1024
   pub read : (left : ℕ) (l : Last) → Ready sort img at left l → l.rank ≡ high
-      → Entering sort img at l 1 (Read (on_page at end) (left - (end - at.offset)) (last_at img at rank))
+      → Entering sort img at l 1 (Some (position (on_page at end) (left - (end - at.offset)) (last_at img at rank)))
 
 -- an entry that was tried: nothing is said of one that was left
-abbrev pub Trying : Sort → (img : List ℕ) (at : Place) (high : ℕ) → Tried → Type 0
-Trying sort img at high Left = Unit {0}
-Trying sort img at high (On end rank) = ReadOnPage sort img at high end rank
+abbrev pub Trying : Sort → (img : List ℕ) (at : Place) (high : ℕ) → Option Tried → Type 0
+Trying sort img at high None = Unit {0}
+Trying sort img at high (Some t) = ReadOnPage sort img at high t.end t.rank
 
-pub record Tries (sort : Sort) (img : List ℕ) (at : Place) (high : ℕ) (r : Tried) : Type 0 where
+pub record Tries (sort : Sort) (img : List ℕ) (at : Place) (high : ℕ) (r : Option Tried) : Type 0 where
   pub is : Trying sort img at high r
 
 -- entries were passed on the page, from the place on
 pub record Skimming (sort : Sort) (img : List ℕ) (at : Place) (left : ℕ) (last : Last) (p : Passed) : Type 0 where
   pub start : Ready sort img at left last
   pub key : Last
-  pub read : Entering sort img at last p.count (Read (on_page at p.end) (left - (p.end - at.offset)) key)
+  pub read : Entering sort img at last p.count (Some (position (on_page at p.end) (left - (p.end - at.offset)) key))
   pub ranked : key.rank ≡ p.rank
   pub low : at.offset ≤ p.end
   pub high : p.end ≤ 1024
@@ -140,4 +142,4 @@ pub record Skimming (sort : Sort) (img : List ℕ) (at : Place) (left : ℕ) (la
 -- some of n entries were read
 pub record Skims (sort : Sort) (img : List ℕ) (at : Place) (l : Last) (n : ℕ) (r : Skimmed) : Type 0 where
   pub few : r.count ≤ n
-  pub read : Entering sort img at l r.count (Read r.at r.left r.last)
+  pub read : Entering sort img at l r.count (Some r.to)

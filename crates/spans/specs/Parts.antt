@@ -1,5 +1,5 @@
 -- A span that a walk finds: its pages, its bytes; and the spans after the first.
-use Rattle.std.specs.Prelude.{ℕ, ◌+◌, ◌≤◌, ◌≡◌, List, [], ◌∷◌, map, length, take, T}
+use Rattle.std.specs.Prelude.{Option, Some, None, ℕ, ◌+◌, ◌≤◌, ◌≡◌, List, [], ◌∷◌, map, length, take, T}
 use Rattle.blockfile.specs.Bytes.{pg, be32, Every, first_of}
 use Rattle.blockfile.specs.Marks.{span_mark}
 use Rattle.blockfile.specs.Layout.{Entry, Span, reached}
@@ -7,20 +7,15 @@ use Rattle.blockfile.specs.Fields.{LinkedSpan, AreConts}
 use Rattle.blockfile.specs.WellFormed.{span, Bears, link_spans}
 use Rattle.walks.specs.Found.{Fresh, claims, Found, FindsAt}
 use Rattle.entries.specs.Places.{IsPage}
-use Rattle.spans.specs.declared.claims.Claims.{Claims}
-use Rattle.spans.specs.declared.claims.Claims.TheVariants.{Held}
 use Rattle.spans.specs.declared.entry.Last.{Last}
 use Rattle.spans.specs.declared.span.Spanned.{Spanned}
-use Rattle.spans.specs.declared.span.Spanned.TheVariants.{Wrong, Right}
+use Rattle.spans.specs.declared.Counted.{Counted}
 use Rattle.order.specs.declared.sort.Sort.{Sort}
-use Rattle.spans.specs.Spans.{entries_in, Counts}
+use Rattle.spans.specs.Spans.{entries_in}
 use Rattle.spans.specs.Entries.{fits, Above, last_key, LastIs}
 use Rattle.spans.specs.Charts.{Charted}
 
 -- ---- The pages of a span
-
-abbrev pub held : ℕ → Claims
-held m = Held m
 
 -- from page p on, n pages having been counted, stand continuation pages that can be claimed, m in all; s is the scratch then
 pub record ContsFound (img scr : List ℕ) (p n m : ℕ) (s : List ℕ) : Type 0 where
@@ -42,14 +37,14 @@ pub record PagesFound (img scr : List ℕ) (p m : ℕ) (s : List ℕ) : Type 0 w
   pub left : s ≡ claims scr (p ∷ conts)
 
 -- the continuation pages from p on are claimed, and those that were are in the chart
-pub record ContsClaimed (img scr : List ℕ) (p : ℕ) (r : Claims) (s chart : List ℕ) : Type 0 where
-  pub found : FindsAt held (ContsFound img scr p 0) r s
-  pub charted : (m : ℕ) → r ≡ Held m → Charted img p m chart
+pub record ContsClaimed (img scr : List ℕ) (p : ℕ) (r : Option ℕ) (s chart : List ℕ) : Type 0 where
+  pub found : FindsAt Some (ContsFound img scr p 0) r s
+  pub charted : (m : ℕ) → r ≡ Some m → Charted img p m chart
 
 -- the pages of the span on page p are claimed
-pub record PagesClaimed (img scr : List ℕ) (p : ℕ) (r : Claims) (s chart : List ℕ) : Type 0 where
-  pub found : FindsAt held (PagesFound img scr p) r s
-  pub charted : (m : ℕ) → r ≡ Held m → Charted img (be32 (pg img p) 4) m chart
+pub record PagesClaimed (img scr : List ℕ) (p : ℕ) (r : Option ℕ) (s chart : List ℕ) : Type 0 where
+  pub found : FindsAt Some (PagesFound img scr p) r s
+  pub charted : (m : ℕ) → r ≡ Some m → Charted img (be32 (pg img p) 4) m chart
 
 -- ---- The bytes of a span
 
@@ -89,18 +84,18 @@ pub record ReadySpan (sort : Sort) (img : List ℕ) (p more : ℕ) (l : Last) : 
   pub low : List ℕ
   pub key : LastIs sort img l low
 
-pub record SpanRight (sort : Sort) (img : List ℕ) (p : ℕ) (conts : List ℕ) (prev z : ℕ) (low : List ℕ) (n next : ℕ) (l : Last) : Type 0 where
+pub record SpanRight (sort : Sort) (img : List ℕ) (p : ℕ) (conts : List ℕ) (prev z : ℕ) (low : List ℕ) (a : Spanned) : Type 0 where
   pub entries : List Entry
-  pub is : SpanIs sort img prev z low (span_on p conts entries) next
-  pub count : n ≡ length entries
-  pub key : LastIs sort img l (last_key low entries)
+  pub is : SpanIs sort img prev z low (span_on p conts entries) a.next
+  pub count : a.size ≡ length entries
+  pub key : LastIs sort img a.last (last_key low entries)
 
-abbrev pub SpanSays : Sort → (img : List ℕ) (p : ℕ) (conts : List ℕ) (prev z : ℕ) (low : List ℕ) → Spanned → Type 0
-SpanSays sort img p conts prev z low Wrong = (es : List Entry) (next : ℕ) → SpanIs sort img prev z low (span_on p conts es) next → ⊥
-SpanSays sort img p conts prev z low (Right n next l) = SpanRight sort img p conts prev z low n next l
+abbrev pub SpanSays : Sort → (img : List ℕ) (p : ℕ) (conts : List ℕ) (prev z : ℕ) (low : List ℕ) → Option Spanned → Type 0
+SpanSays sort img p conts prev z low None = (es : List Entry) (next : ℕ) → SpanIs sort img prev z low (span_on p conts es) next → ⊥
+SpanSays sort img p conts prev z low (Some a) = SpanRight sort img p conts prev z low a
 
 -- the answer for the span on page p, whatever its continuation pages and the last key met
-pub record Reading (sort : Sort) (img : List ℕ) (p prev z : ℕ) (l : Last) (r : Spanned) : Type 0 where
+pub record Reading (sort : Sort) (img : List ℕ) (p prev z : ℕ) (l : Last) (r : Option Spanned) : Type 0 where
   pub is : (conts low : List ℕ) → SpanPages img p conts → LastIs sort img l low → SpanSays sort img p conts prev z low r
 
 -- ---- A span: its pages and its bytes
@@ -111,25 +106,25 @@ pub record SpanFound (sort : Sort) (img scr : List ℕ) (p prev z : ℕ) (low : 
   pub found : Found img scr (span (with_links sp prev next z) ∷ []) s
 
 -- the span that an answer tells
-pub record Told (sort : Sort) (img scr : List ℕ) (p prev z : ℕ) (low : List ℕ) (n next : ℕ) (l : Last) (s : List ℕ) : Type 0 where
+pub record Told (sort : Sort) (img scr : List ℕ) (p prev z : ℕ) (low : List ℕ) (a : Spanned) (s : List ℕ) : Type 0 where
   pub sp : Span
-  pub found : SpanFound sort img scr p prev z low sp next s
-  pub count : n ≡ length sp.entries
-  pub key : LastIs sort img l (last_key low sp.entries)
+  pub found : SpanFound sort img scr p prev z low sp a.next s
+  pub count : a.size ≡ length sp.entries
+  pub key : LastIs sort img a.last (last_key low sp.entries)
 
 -- the answer that a span has
-pub record Answered (sort : Sort) (img low : List ℕ) (sp : Span) (next : ℕ) (t : List ℕ) (r : Spanned) (s : List ℕ) : Type 0 where
+pub record Answered (sort : Sort) (img low : List ℕ) (sp : Span) (next : ℕ) (t : List ℕ) (r : Option Spanned) (s : List ℕ) : Type 0 where
   pub last : Last
-  pub is : r ≡ Right (length sp.entries) next last
+  pub is : r ≡ Some (record { size = length sp.entries; next = next; last = last })
   pub left : s ≡ t
   pub key : LastIs sort img last (last_key low sp.entries)
 
 -- the answer is right exactly where there is such a span
-pub record Verified (sort : Sort) (img scr : List ℕ) (p prev z : ℕ) (low : List ℕ) (r : Spanned) (s : List ℕ) : Type 0 where
-  pub sound : (n next : ℕ) (l : Last) → r ≡ Right n next l → Told sort img scr p prev z low n next l s
+pub record Verified (sort : Sort) (img scr : List ℕ) (p prev z : ℕ) (low : List ℕ) (r : Option Spanned) (s : List ℕ) : Type 0 where
+  pub sound : (a : Spanned) → r ≡ Some a → Told sort img scr p prev z low a s
   pub complete : (sp : Span) (next : ℕ) (t : List ℕ) → SpanFound sort img scr p prev z low sp next t → Answered sort img low sp next t r s
 
-pub record VerifiedAll (sort : Sort) (img scr : List ℕ) (p prev z : ℕ) (l : Last) (r : Spanned) (s : List ℕ) : Type 0 where
+pub record VerifiedAll (sort : Sort) (img scr : List ℕ) (p prev z : ℕ) (l : Last) (r : Option Spanned) (s : List ℕ) : Type 0 where
   pub is : (low : List ℕ) → LastIs sort img l low → Verified sort img scr p prev z low r s
 
 -- ---- Spans one after another
@@ -144,7 +139,7 @@ pub record ChainFound (sort : Sort) (img scr : List ℕ) (z p prev : ℕ) (low :
   pub found : Found img scr (map span (link_spans z prev ss)) s
 
 -- some keys and spans having been counted, from page p on stand further spans; only the first of all may be empty
-pub record SpansFrom (sort : Sort) (img scr : List ℕ) (z p prev : ℕ) (low : List ℕ) (keys spans : ℕ) (a : Counts) (s : List ℕ) : Type 0 where
+pub record SpansFrom (sort : Sort) (img scr : List ℕ) (z p prev : ℕ) (low : List ℕ) (keys spans : ℕ) (a : Counted) (s : List ℕ) : Type 0 where
   pub here : Span
   pub others : List Span
   pub chain : ChainFound sort img scr z p prev low (here ∷ others) s

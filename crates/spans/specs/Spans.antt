@@ -8,7 +8,6 @@ use Rattle.walks.specs.Found.{Found}
 use Rattle.order.specs.declared.sort.Sort.{Sort}
 use Rattle.order.specs.Sorts.{rule_as}
 use Rattle.spans.specs.declared.Counted.{Counted}
-use Rattle.spans.specs.declared.Counted.TheVariants.{Whole}
 
 abbrev pub entries_in : List Span → List Entry
 entries_in ss = gather (λ s. s.entries) ss
@@ -24,16 +23,8 @@ pub record SpansOk (r : KeyRule) (z : ℕ) (first : Span) (others : List Span) :
   pub values : Every (λ e. length e.value ≤ 65535) (entries_in (first ∷ others))
   pub rising : Rising r (entries_in (first ∷ others))
 
--- what is counted
-pub record Counts : Type 0 where
-  pub keys : ℕ
-  pub spans : ℕ
-
-abbrev pub whole : Counts → Counted
-whole a = Whole a.keys a.spans
-
 -- from page p on stand spans of span size z that keep the rules of keys that sort so; their pages can be claimed, and s is the scratch then
-pub record SpansFound (sort : Sort) (img scr : List ℕ) (z p : ℕ) (a : Counts) (s : List ℕ) : Type 0 where
+pub record SpansFound (sort : Sort) (img scr : List ℕ) (z p : ℕ) (a : Counted) (s : List ℕ) : Type 0 where
   pub first : Span
   pub others : List Span
   pub named : first.page ≡ p

@@ -7,13 +7,6 @@ ghost use Rattle.spans.specs.Parts.{ContsClaimed, PagesClaimed};
 use heads::claim::{claim, head32};
 use pages::mark;
 
-// Pages that were claimed: refused, or held, with the number of continuation pages.
-#[derive(Clone, Copy)]
-pub enum Claims {
-    Refused,
-    Held(usize),
-}
-
 // Notes the continuation page of this index in the chart, which has every sixteenth.
 fn note(chart: &mut [u16], index: usize, page: usize)
     requires { (length chart.old ≡ 256) × (index < 4096) × (page ≤ 4096) }
@@ -24,9 +17,9 @@ fn note(chart: &mut [u16], index: usize, page: usize)
     }
 }
 
-// Claims the continuation pages from `start` on, along their links up to 0, and notes them in the chart. A page is claimed once, so
-// a ring is refused.
-fn claim_conts(scratch: &mut [u8], chart: &mut [u16], start: usize) -> Claims
+// Claims the continuation pages from `start` on, along their links up to 0, and notes them in the chart; answers their number. A page
+// is claimed once, so a ring is refused.
+fn claim_conts(scratch: &mut [u8], chart: &mut [u16], start: usize) -> Option<usize>
     requires { Kept scratch.old × (length chart.old ≡ 256) }
     ensures { (img : List ℕ) → Lent img scratch.old → ContsClaimed img scratch.old start result scratch.new chart.new }
 {
@@ -34,17 +27,17 @@ fn claim_conts(scratch: &mut [u8], chart: &mut [u16], start: usize) -> Claims
     let mut count = 0;
     while page != 0 {
         if !claim(scratch, page, mark::CONTINUATION) {
-            return Claims::Refused;
+            return None;
         }
         note(chart, count, page);
         count += 1;
         page = head32(scratch, page, 4);
     }
-    Claims::Held(count)
+    Some(count)
 }
 
-// Claims the page of a span and its continuation pages, and notes these in the chart.
-pub fn claim_span(scratch: &mut [u8], chart: &mut [u16], page: usize) -> Claims
+// Claims the page of a span and its continuation pages, and notes these in the chart; answers their number.
+pub fn claim_span(scratch: &mut [u8], chart: &mut [u16], page: usize) -> Option<usize>
     requires { Kept scratch.old × (length chart.old ≡ 256) }
     ensures { (img : List ℕ) → Lent img scratch.old → PagesClaimed img scratch.old page result scratch.new chart.new }
 {
@@ -52,5 +45,5 @@ pub fn claim_span(scratch: &mut [u8], chart: &mut [u16], page: usize) -> Claims
         let first = head32(scratch, page, 4);
         return claim_conts(scratch, chart, first);
     }
-    Claims::Refused
+    None
 }

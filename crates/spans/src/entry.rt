@@ -27,18 +27,19 @@ pub struct Last {
     pub rank: usize,
 }
 
-// Entries that were read: refused, or the place after them, the bytes left from there on, and the last key.
+// Where reading has come to: a place, the bytes left from there on, and the last key met.
 #[derive(Clone, Copy)]
-pub enum Entered {
-    Bad,
-    Read(Place, usize, Last),
+pub struct Position {
+    pub at: Place,
+    pub left: usize,
+    pub last: Last,
 }
 
-// An entry that was tried: left, or read, with the offset where it ends and the rank of its key.
+// An entry that was read on its page: the offset where it ends, and the rank of its key.
 #[derive(Clone, Copy)]
-pub enum Tried {
-    Left,
-    On(usize, usize),
+pub struct Tried {
+    pub end: usize,
+    pub rank: usize,
 }
 
 // Entries that were passed on a page: their number, the offsets where the last one begins and ends, and the rank of its key. Without
@@ -51,13 +52,11 @@ pub struct Passed {
     pub rank: usize,
 }
 
-// Entries that were read: their number, the place after them, the bytes left from there on, and the last key.
+// Entries that were read: their number, and the position after them.
 #[derive(Clone, Copy)]
 pub struct Skimmed {
     pub count: usize,
-    pub at: Place,
-    pub left: usize,
-    pub last: Last,
+    pub to: Position,
 }
 
 // Whether a key is above the last key met, by bytes.
@@ -153,14 +152,14 @@ fn verify_entry(
     left: usize,
     sort: Sort,
     last: Last,
-) -> Entered
+) -> Option<Position>
     requires { Lent image.now scratch.now × Ready sort image.now at left last × Spread image.now chart.now more at left }
     ensures { Entering sort image.now at last 1 result }
 {
     let offset = at.offset;
     let skipped = gap(offset, 4);
     if left < skipped + 4 {
-        return Entered::Bad;
+        return None;
     }
     let sizes = lengths(image, at);
     let start = sizes.after;
@@ -168,34 +167,34 @@ fn verify_entry(
     let value = sizes.value;
     let both = key + value;
     if left - skipped - 4 < both {
-        return Entered::Bad;
+        return None;
     }
     if !is_above(image, sort, last, start, key) {
-        return Entered::Bad;
+        return None;
     }
     let after = leap(image, scratch, chart, more, start, left - skipped - 4, both);
     let rank = rank_most(image, start, key, sort);
-    Entered::Read(
-        after,
-        left - skipped - 4 - both,
-        Last {
+    Some(Position {
+        at: after,
+        left: left - skipped - 4 - both,
+        last: Last {
             at: start,
             length: key,
             rank,
         },
-    )
+    })
 }
 
 // Tries the entry that follows. It is read if it lies on the page whole, with eight bytes from the start of its key on, if its key is
 // as long as `allowed` has it, and if its rank is above `high`; else it is left.
-fn try_entry(image: &[u8], at: Place, sort: Sort, allowed: Lengths, high: usize) -> Tried
+fn try_entry(image: &[u8], at: Place, sort: Sort, allowed: Lengths, high: usize) -> Option<Tried>
     requires { Enough image.now at 0 × LengthsAre sort allowed }
     ensures { Tries sort image.now at high result }
 {
     let page = at.page;
     let offset = at.offset;
     if 1012 < offset {
-        return Tried::Left;
+        return None;
     }
     let key = get16(image, page, offset);
     let value = get16(image, page, offset + 2);
@@ -205,19 +204,19 @@ fn try_entry(image: &[u8], at: Place, sort: Sort, allowed: Lengths, high: usize)
     };
     let end = start.offset + key + value;
     if 1024 < end {
-        return Tried::Left;
+        return None;
     }
     if key < allowed.least {
-        return Tried::Left;
+        return None;
     }
     if allowed.most < key {
-        return Tried::Left;
+        return None;
     }
     let rank = rank(image, start, key, sort);
     if rank <= high {
-        return Tried::Left;
+        return None;
     }
-    Tried::On(end, rank)
+    Some(Tried { end, rank })
 }
 
 // What is told of the entries that were passed on the page of this place, from there on.
@@ -229,29 +228,26 @@ fn conclude(image: &[u8], at: Place, left: usize, last: Last, passed: Passed) ->
     let before = passed.before;
     let end = passed.end;
     if count == 0 {
-        return Skimmed {
-            count,
-            at,
-            left,
-            last,
-        };
+        let to = Position { at, left, last };
+        return Skimmed { count, to };
     }
     let page = at.page;
     let first = at.offset;
     let length = get16(image, page, before);
-    Skimmed {
-        count,
+    let key = Place {
+        page,
+        offset: before + 4,
+    };
+    let to = Position {
         at: Place { page, offset: end },
         left: left - (end - first),
         last: Last {
-            at: Place {
-                page,
-                offset: before + 4,
-            },
+            at: key,
             length,
             rank: passed.rank,
         },
-    }
+    };
+    Skimmed { count, to }
 }
 
 // Reads entries, at most `size` of them, up to one that does not lie on the page whole or whose rank does not tell its order. Only
@@ -268,12 +264,12 @@ fn skim(image: &[u8], at: Place, left: usize, size: usize, sort: Sort, last: Las
     let mut i = 0;
     while i < size {
         let here = Place { page, offset };
-        let Tried::On(end, rank) = try_entry(image, here, sort, allowed, high) else {
+        let Some(entry) = try_entry(image, here, sort, allowed, high) else {
             break;
         };
         before = offset;
-        offset = end;
-        high = rank;
+        offset = entry.end;
+        high = entry.rank;
         i += 1;
     }
     let passed = Passed {
@@ -304,7 +300,7 @@ pub fn verify_entries(
     size: usize,
     sort: Sort,
     last: Last,
-) -> Entered
+) -> Option<Position>
     requires { Lent image.now scratch.now × Ready sort image.now at left last × Spread image.now chart.now more at left }
     ensures { Entering sort image.now at last size result }
 {
@@ -316,20 +312,20 @@ pub fn verify_entries(
     while i < size {
         let s = skim(image, here, rest, run, sort, key);
         let n = s.count;
-        let p = s.at;
-        let k = s.last;
+        let to = s.to;
         if size - i <= n {
-            return Entered::Read(p, s.left, k);
+            return Some(to);
         }
-        let Entered::Read(q, m, h) = verify_entry(image, scratch, chart, more, p, s.left, sort, k)
-        else {
-            return Entered::Bad;
-        };
-        here = q;
-        rest = m;
-        key = h;
+        let after = verify_entry(image, scratch, chart, more, to.at, to.left, sort, to.last)?;
+        here = after.at;
+        rest = after.left;
+        key = after.last;
         i += n + 1;
-        run = run_after(k.rank, h.rank, size - i);
+        run = run_after(to.last.rank, key.rank, size - i);
     }
-    Entered::Read(here, rest, key)
+    Some(Position {
+        at: here,
+        left: rest,
+        last: key,
+    })
 }

@@ -9,18 +9,18 @@ ghost use Rattle.std.specs.Prelude.{◌≡◌, ◌≤◌, length};
 ghost use Rattle.heads.specs.Claims.{Lent};
 ghost use Rattle.walks.specs.Found.{FindsAt};
 ghost use Rattle.order.specs.Sorts.{turn};
-ghost use Rattle.spans.specs.Spans.{whole, SpansFound};
+ghost use Rattle.spans.specs.Spans.{SpansFound};
 
 use crate::entry::Last;
-use crate::span::{Rules, Spanned, verify_span};
+use crate::span::{Rules, verify_span};
 use entries::place::Place;
 use order::sort::turn_of;
 
-// The answer for the spans of a table: broken, or whole with the numbers of keys and of spans.
+// What the spans of a table count: keys and spans.
 #[derive(Clone, Copy)]
-pub enum Counted {
-    Broken,
-    Whole(usize, usize),
+pub struct Counted {
+    pub keys: usize,
+    pub spans: usize,
 }
 
 // Claims and reads the spans of a table from page `start` on; no key has been met yet. Only the first span may be empty. A span is
@@ -32,9 +32,9 @@ fn walk_spans(
     start: usize,
     rules: Rules,
     none: Last,
-) -> Counted
+) -> Option<Counted>
     requires { Lent image.now scratch.old × (length chart.old ≡ 256) × (rules.most ≤ 128) × (none.length ≡ 0) × (turn rules.sort ≤ none.rank) }
-    ensures { FindsAt whole (SpansFound rules.sort image.now scratch.old rules.most start) result scratch.new }
+    ensures { FindsAt Some (SpansFound rules.sort image.now scratch.old rules.most start) result scratch.new }
 {
     let mut page = start;
     let mut previous = 0;
@@ -42,31 +42,25 @@ fn walk_spans(
     let mut keys = 0;
     let mut spans = 0;
     loop {
-        let Spanned::Right(n, next, key) = verify_span(
-            image, scratch, chart, page, previous, rules, last,
-        ) else {
-            return Counted::Broken;
-        };
-        if n == 0 {
-            if spans != 0 {
-                return Counted::Broken;
-            }
+        let span = verify_span(image, scratch, chart, page, previous, rules, last)?;
+        if span.size == 0 && spans != 0 {
+            return None;
         }
-        keys += n;
+        keys += span.size;
         spans += 1;
-        if next == 0 {
-            return Counted::Whole(keys, spans);
+        if span.next == 0 {
+            return Some(Counted { keys, spans });
         }
         previous = page;
-        page = next;
-        last = key;
+        page = span.next;
+        last = span.last;
     }
 }
 
 // Claims and reads the spans of a table whose first span is on page `start`.
-pub fn verify_spans(image: &[u8], scratch: &mut [u8], start: usize, rules: Rules) -> Counted
+pub fn verify_spans(image: &[u8], scratch: &mut [u8], start: usize, rules: Rules) -> Option<Counted>
     requires { Lent image.now scratch.old × (rules.most ≤ 128) }
-    ensures { FindsAt whole (SpansFound rules.sort image.now scratch.old rules.most start) result scratch.new }
+    ensures { FindsAt Some (SpansFound rules.sort image.now scratch.old rules.most start) result scratch.new }
 {
     let at = Place { page: 0, offset: 0 };
     let sort = rules.sort;

@@ -6,8 +6,8 @@ ghost use Rattle.spans.specs.Charts.{Charted};
 ghost use Rattle.spans.specs.Entries.{Met};
 ghost use Rattle.spans.specs.Parts.{ReadySpan, Reading, VerifiedAll};
 
-use crate::claims::{Claims, claim_span};
-use crate::entry::{Entered, Last, verify_entries};
+use crate::claims::claim_span;
+use crate::entry::{Last, verify_entries};
 use entries::place::Place;
 use heads::claim::{head16, head32};
 use order::sort::Sort;
@@ -19,11 +19,12 @@ pub struct Rules {
     pub sort: Sort,
 }
 
-// The answer for a span: wrong, or right with the number of its entries, the next span's page and the last key met.
+// A span that was read: the number of its entries, the next span's page, and the last key met.
 #[derive(Clone, Copy)]
-pub enum Spanned {
-    Wrong,
-    Right(usize, usize, Last),
+pub struct Spanned {
+    pub size: usize,
+    pub next: usize,
+    pub last: Last,
 }
 
 // Reads the fields and the entries of the span on `page`, which has `more` continuation pages. No page may be left over: fewer
@@ -37,24 +38,24 @@ fn read_span(
     previous: usize,
     rules: Rules,
     last: Last,
-) -> Spanned
+) -> Option<Spanned>
     requires { Lent image.now scratch.now × ReadySpan rules.sort image.now page more last × Charted image.now (be32 (pg image.now page) 4) more chart.now }
     ensures { Reading rules.sort image.now page previous rules.most last result }
 {
     let most = rules.most;
     let sort = rules.sort;
     if head32(scratch, page, 8) != previous {
-        return Spanned::Wrong;
+        return None;
     }
     if head16(scratch, page, 16) != most {
-        return Spanned::Wrong;
+        return None;
     }
     let size = head16(scratch, page, 18);
     if most < size {
-        return Spanned::Wrong;
+        return None;
     }
     let start = Place { page, offset: 20 };
-    let Entered::Read(_, left, key) = verify_entries(
+    let end = verify_entries(
         image,
         scratch,
         chart,
@@ -64,14 +65,15 @@ fn read_span(
         size,
         sort,
         last,
-    ) else {
-        return Spanned::Wrong;
-    };
-    if 1016 <= left {
-        return Spanned::Wrong;
+    )?;
+    if 1016 <= end.left {
+        return None;
     }
-    let next = head32(scratch, page, 12);
-    Spanned::Right(size, next, key)
+    Some(Spanned {
+        size,
+        next: head32(scratch, page, 12),
+        last: end.last,
+    })
 }
 
 // Claims and reads the span on `page`; `previous` is the page of the span before it, or 0, and `last` the last key met. The chart
@@ -84,12 +86,10 @@ pub fn verify_span(
     previous: usize,
     rules: Rules,
     last: Last,
-) -> Spanned
+) -> Option<Spanned>
     requires { Lent image.now scratch.old × (length chart.old ≡ 256) × Met rules.sort image.now last }
     ensures { VerifiedAll rules.sort image.now scratch.old page previous rules.most last result scratch.new }
 {
-    let Claims::Held(more) = claim_span(scratch, chart, page) else {
-        return Spanned::Wrong;
-    };
+    let more = claim_span(scratch, chart, page)?;
     read_span(image, scratch, chart, page, more, previous, rules, last)
 }

@@ -19,10 +19,10 @@ use Rattle.heads.specs.Claims.{Lent, claimable, claimed, Claimed, InHead, head32
 use Rattle.heads.proofs.Claims.{lent-claimed, in_head, head32-read}
 use Rattle.pages.specs.Places.{Number}
 use Rattle.pages.proofs.Begins.{begins-take, take_begins}
-use Rattle.walks.specs.declared.Walked.{Walked}
-use Rattle.walks.specs.declared.Walked.TheVariants.{Refused, Done}
+use Rattle.std.proofs.Common.{Option as Answer, Some, None}
+use Rattle.std.proofs.lemmas.Option.{none-some, same_Some}
 use Rattle.walks.specs.Found.{Open, unclaimed, Found, Decides, FindsAt}
-use Rattle.walks.proofs.Founds.{SameAt, same_start, same_turn, finds-none, finds-done, done-injective, refused-never, found_none, claimable-open, unclaimed-claimed, length-claimed}
+use Rattle.walks.proofs.Founds.{SameAt, same_start, same_turn, finds-none, finds-done, found_none, claimable-open, unclaimed-claimed, length-claimed}
 use Rattle.walks.proofs.Pieces.{Single, found-claimable, found-rest, found-cons, claim-done, claim-not}
 use Rattle.towers.specs.Climb.{level_at, AllAre, entry_at, Followed, next_span, Way, Linked, Reach, Tall, span_under, TowerFound, Placed, ClimbOn, Climb}
 use Rattle.towers.proofs.Levels.{lowest-is}
@@ -35,20 +35,20 @@ unfolding tower_mark
 tower-single img x = record { page = refl; mark = λ b. take_begins tower_mark (pg img x.tower.page) b.mark }
 
 module _ (img scr : List ℕ) (lo hi n : ℕ) (r : Bool) (s : List ℕ) (c : Claimed img scr n 2 r s) where
-  pub tower-no : r ≡ false → FindsAt Done (TowerFound img scr lo hi n) Refused s
-  tower-no e = finds-none Done Refused s (same_start (TowerFound img scr lo hi n)) refused-never (λ m t f. true≢false (sym f.can ∙ claim-not img scr n 2 r s c e))
+  pub tower-no : r ≡ false → FindsAt Some (TowerFound img scr lo hi n) None s
+  tower-no e = finds-none (same_start (TowerFound img scr lo hi n)) (λ m t f. true≢false (sym f.can ∙ claim-not img scr n 2 r s c e))
 
   module _ (e : r ≡ true) where
     module _ (h max : ℕ) (h-is : h ≡ be16 (pg img n) 10) (max-is : max ≡ be16 (pg img n) 8) (q : Bool) (d : Decides (Tall lo hi max h) q) where
-      pub tower-not : q ≡ false → FindsAt Done (TowerFound img scr lo hi n) Refused s
+      pub tower-not : q ≡ false → FindsAt Some (TowerFound img scr lo hi n) None s
       tower-not f =
-          finds-none Done Refused s (same_start (TowerFound img scr lo hi n)) refused-never
+          finds-none (same_start (TowerFound img scr lo hi n))
           (λ m t x. true≢false (sym (d.complete (rw (max-is, h-is, ← x.height) x.tall)) ∙ f))
 
-      pub tower-done : q ≡ true → FindsAt Done (TowerFound img scr lo hi n) (Done h) s
+      pub tower-done : q ≡ true → FindsAt Some (TowerFound img scr lo hi n) (Some h) s
       tower-done f =
           let k : (claimable img scr n 2 ≡ true) × (s ≡ claimed scr n) = claim-done img scr n 2 r s c e in
-          finds-done Done (Done h) s (same_start (TowerFound img scr lo hi n)) done-injective h refl
+          finds-done (same_start (TowerFound img scr lo hi n)) h
           (record { can = k.0; height = h-is; tall = subst (λ (x : ℕ). Tall lo hi x h) max-is (d.sound f); left = k.1 })
           (λ m t x. (h-is ∙ sym x.height, k.1 ∙ sym x.left))
 
@@ -71,31 +71,31 @@ found-span f l x = (head32-read (found-lent _ _ _ _ _ _ _ f l) (found-in-head f 
 
 -- ---- A tower on its span
 
-module _ (img scr : List ℕ) (top : ℕ) (levels : List ℕ) (p n : ℕ) (a : Walked) (s : List ℕ) (c : FindsAt Done (TowerFound img scr 1 top n) a s) where
-  abbrev PlacedIs : Walked → Type 0
-  PlacedIs r = FindsAt Done (Placed img scr top levels p n) r s
+module _ (img scr : List ℕ) (top : ℕ) (levels : List ℕ) (p n : ℕ) (a : Answer ℕ) (s : List ℕ) (c : FindsAt Some (TowerFound img scr 1 top n) a s) where
+  abbrev PlacedIs : Answer ℕ → Type 0
+  PlacedIs r = FindsAt Some (Placed img scr top levels p n) r s
 
-  placed-none : ((m : ℕ) (t : List ℕ) → Placed img scr top levels p n m t → ⊥) → PlacedIs Refused
-  placed-none f = finds-none Done Refused s (same_start (Placed img scr top levels p n)) refused-never f
+  placed-none : ((m : ℕ) (t : List ℕ) → Placed img scr top levels p n m t → ⊥) → PlacedIs None
+  placed-none f = finds-none (same_start (Placed img scr top levels p n)) f
 
-  pub placed-no : a ≡ Refused → PlacedIs Refused
-  placed-no e = placed-none (λ m t f. refused-never m (sym e ∙ (c.complete m t f.found).0))
+  pub placed-no : a ≡ None → PlacedIs None
+  placed-no e = placed-none (λ m t f. none-some m (sym e ∙ (c.complete m t f.found).0))
 
-  module _ (h : ℕ) (e : a ≡ Done h) where
+  module _ (h : ℕ) (e : a ≡ Some h) where
     module _ (span : ℕ) (span-is : span ≡ span_under img n) (q : Bool) (d : Decides (Reach img p span) q) where
-      pub placed_off : q ≡ false → PlacedIs Refused
+      pub placed_off : q ≡ false → PlacedIs None
       placed_off f = placed-none (λ m t x. true≢false (sym (d.complete (subst (Reach img p) (sym span-is) x.reach)) ∙ f))
 
       module _ (b : Bool) (w : Decides (AllAre levels h n) b) where
         same-height : (m : ℕ) (t : List ℕ) → Placed img scr top levels p n m t → m ≡ h
-        same-height m t x = done-injective m h (sym (c.complete m t x.found).0 ∙ e)
+        same-height m t x = same_Some m h (sym (c.complete m t x.found).0 ∙ e)
 
-        pub placed-not : b ≡ false → PlacedIs Refused
+        pub placed-not : b ≡ false → PlacedIs None
         placed-not f = placed-none (λ m t x. true≢false (sym (w.complete (subst (λ (y : ℕ). AllAre levels y n) (same-height m t x) x.expected)) ∙ f))
 
-        pub placed-done : q ≡ true → b ≡ true → PlacedIs (Done h)
+        pub placed-done : q ≡ true → b ≡ true → PlacedIs (Some h)
         placed-done f g =
-            finds-done Done (Done h) s (same_start (Placed img scr top levels p n)) done-injective h refl
+            finds-done (same_start (Placed img scr top levels p n)) h
             (record { found = c.sound h e; reach = subst (Reach img p) span-is (d.sound f); expected = w.sound g })
             (λ m t x. (sym (same-height m t x), (c.complete m t x.found).1))
 
@@ -318,30 +318,30 @@ pub turn-span : {img scr : List ℕ} {top n k : ℕ} {out : List ℕ} → Turn i
 turn-span t x = (head32-read t.lent (turn-in-head t (omega arith)) (omega arith) x).is
 
 module _ (img scr₀ : List ℕ) (head top start : ℕ) (scr levels : List ℕ) (p count n : ℕ) (v : Climbing img scr₀ head top start scr levels p count n) where
-  abbrev ClimbIs : Walked → List ℕ → Type 0
-  ClimbIs r s = FindsAt Done (Climb img scr₀ top start (entry_at img head) 1) r s
+  abbrev ClimbIs : Answer ℕ → List ℕ → Type 0
+  ClimbIs r s = FindsAt Some (Climb img scr₀ top start (entry_at img head) 1) r s
 
   module _ (z : n ≡ 0) (r : Bool) (d : Decides (AllAre levels top 0) r) where
     only : (m : ℕ) (t : List ℕ) → Climb img scr top p (level_at levels) count m t → AllAre levels top 0 × ((count ≡ m) × (scr ≡ t))
     only m t c = none_left img scr top levels count m t n v.lowest z c.rest p c.on
 
-    pub climbing-open : r ≡ false → ClimbIs Refused scr
-    climbing-open e = finds-none Done Refused scr v.same refused-never (λ m t c. true≢false (sym (d.complete (only m t c).0) ∙ e))
+    pub climbing-open : r ≡ false → ClimbIs None scr
+    climbing-open e = finds-none v.same (λ m t c. true≢false (sym (d.complete (only m t c).0) ∙ e))
 
-    pub climbing-end : r ≡ true → ClimbIs (Done count) scr
+    pub climbing-end : r ≡ true → ClimbIs (Some count) scr
     climbing-end e =
-        finds-done Done (Done count) scr v.same done-injective count refl (climb-end img scr top levels p count v.linked (d.sound e)) (λ m t c. (only m t c).1)
+        finds-done v.same count (climb-end img scr top levels p count v.linked (d.sound e)) (λ m t c. (only m t c).1)
 
-  module _ (z : n ≡ 0 → ⊥) (a : Walked) (s : List ℕ) (b : FindsAt Done (Placed img scr top levels p n) a s) where
+  module _ (z : n ≡ 0 → ⊥) (a : Answer ℕ) (s : List ℕ) (b : FindsAt Some (Placed img scr top levels p n) a s) where
     first : (m : ℕ) (t : List ℕ) → Climb img scr top p (level_at levels) count m t → First img scr top levels count m t p n
     first m t c = first-of img scr top levels count m t n v.lowest z (v.topped z) c.rest p c.on
 
-    pub climbing-no : a ≡ Refused → ClimbIs Refused s
+    pub climbing-no : a ≡ None → ClimbIs None s
     climbing-no e =
-        finds-none Done Refused s v.same refused-never
-        (λ m t c. let f = first m t c in refused-never f.height (sym e ∙ (b.complete f.height f.mid f.placed).0))
+        finds-none v.same
+        (λ m t c. let f = first m t c in none-some f.height (sym e ∙ (b.complete f.height f.mid f.placed).0))
 
-    module _ (k : ℕ) (e : a ≡ Done k) where
+    module _ (k : ℕ) (e : a ≡ Some k) where
       pub climbing-turn : Turn img scr top n k s
       climbing-turn =
           let x = b.sound k e in
@@ -364,7 +364,7 @@ module _ (img scr₀ : List ℕ) (head top start : ℕ) (scr levels : List ℕ) 
             back = λ m t c.
                 let x = first m t c in
                 let d = b.complete x.height x.mid x.placed in
-                let h : k ≡ x.height = done-injective k x.height (sym e ∙ d.0) in
+                let h : k ≡ x.height = same_Some k x.height (sym e ∙ d.0) in
                 subst (λ (y : List ℕ). Climb img y top (next_span img (span_under img n)) (level_at out) (count + 1) m t) (sym d.1)
                 (x.more out (subst (λ (y : ℕ). Followed img n y levels out) h f));
           }

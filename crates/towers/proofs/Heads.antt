@@ -13,10 +13,10 @@ use Rattle.blockfile.proofs.Every.{every-so, every-both}
 use Rattle.laws.proofs.Chains.{entry-at}
 use Rattle.heads.specs.Claims.{Room, Lent, claimed, head32, InHead}
 use Rattle.heads.proofs.Claims.{room-long, in_head, head32-is}
-use Rattle.walks.specs.declared.Walked.{Walked}
-use Rattle.walks.specs.declared.Walked.TheVariants.{Refused, Done}
+use Rattle.std.proofs.Common.{Option as Answer, Some, None}
+use Rattle.std.proofs.lemmas.Option.{none-some, same_Some}
 use Rattle.walks.specs.Found.{Open, Fresh, claims, Found, FindsAt}
-use Rattle.walks.proofs.Founds.{same_start, finds-none, finds-same, done-injective, refused-never, fresh-right, length-claims, unclaimed-claims, unclaimed-most}
+use Rattle.walks.proofs.Founds.{same_start, finds-none, finds-same, fresh-right, length-claims, unclaimed-claims, unclaimed-most}
 use Rattle.walks.proofs.Pieces.{found-claimable, found-rest, found-cons}
 use Rattle.towers.specs.Towers.{Spanned, TowersFound}
 use Rattle.towers.specs.Climb.{entry_at, next_span, Way, Linked, Tall, span_under, TowerFound, Climb}
@@ -108,8 +108,8 @@ moved (c ∷ cs) (s ∷ ss) e =
 -- ---- The head
 
 module _ (img scr : List ℕ) (head p z : ℕ) (s : Span) (others : List Span) (sp : Spanned img p z s others) where
-  abbrev TowersIs : Walked → List ℕ → Type 0
-  TowersIs r out = FindsAt Done (TowersFound img scr head s others) r out
+  abbrev TowersIs : Answer ℕ → List ℕ → Type 0
+  TowersIs r out = FindsAt Some (TowersFound img scr head s others) r out
 
   head-found : (m : ℕ) (out : List ℕ) (x : TowersFound img scr head s others m out) → TowerFound img scr 0 252 head x.top.height (claimed scr head)
   head-found m out x =
@@ -125,15 +125,15 @@ module _ (img scr : List ℕ) (head p z : ℕ) (s : Span) (others : List Span) (
         left = refl;
       })
 
-  module _ (a : Walked) (u : List ℕ) (b : FindsAt Done (TowerFound img scr 0 252 head) a u) where
-    towers-none : ((m : ℕ) (t : List ℕ) → TowersFound img scr head s others m t → ⊥) → TowersIs Refused u
-    towers-none f = finds-none Done Refused u (same_start (TowersFound img scr head s others)) refused-never f
+  module _ (a : Answer ℕ) (u : List ℕ) (b : FindsAt Some (TowerFound img scr 0 252 head) a u) where
+    towers-none : ((m : ℕ) (t : List ℕ) → TowersFound img scr head s others m t → ⊥) → TowersIs None u
+    towers-none f = finds-none (same_start (TowersFound img scr head s others)) f
 
-    pub head-no : a ≡ Refused → TowersIs Refused u
-    head-no e = towers-none (λ m t x. refused-never x.top.height (sym e ∙ (b.complete x.top.height (claimed scr head) (head-found m t x)).0))
+    pub head-no : a ≡ None → TowersIs None u
+    head-no e = towers-none (λ m t x. none-some x.top.height (sym e ∙ (b.complete x.top.height (claimed scr head) (head-found m t x)).0))
 
-    module _ (k : ℕ) (e : a ≡ Done k) (q : ℕ) (is : q ≡ span_under img head) where
-      pub head-off : (q ≡ p → ⊥) → TowersIs Refused u
+    module _ (k : ℕ) (e : a ≡ Some k) (q : ℕ) (is : q ≡ span_under img head) where
+      pub head-off : (q ≡ p → ⊥) → TowersIs None u
       head-off ne = towers-none (λ m t x. ne (is ∙ ap (span_under img) (sym x.named) ∙ x.found.bears.0.span_page ∙ sp.here))
 
       module _ (on : q ≡ p) where
@@ -173,8 +173,8 @@ module _ (img scr : List ℕ) (head p z : ℕ) (s : Span) (others : List Span) (
             let y : LinkedTower = raised s.page ts w in
             let ys : List Piece = map tower (link_towers x.rest) in
             let g : IsTower y (pg img w.page) = x.found.bears.0 in
-            let d : (a ≡ Done w.height) × (u ≡ claimed scr head) = b.complete w.height (claimed scr head) (head-found m t x) in
-            let h : w.height ≡ k = done-injective w.height k (sym d.0 ∙ e) in
+            let d : (a ≡ Some w.height) × (u ≡ claimed scr head) = b.complete w.height (claimed scr head) (head-found m t x) in
+            let h : w.height ≡ k = same_Some w.height k (sym d.0 ∙ e) in
             let left : claimed scr w.page ≡ u = ap (claimed scr) x.named ∙ sym d.1 in
             record {
               rest = x.rest;
@@ -190,8 +190,8 @@ module _ (img scr : List ℕ) (head p z : ℕ) (s : Span) (others : List Span) (
               };
             }
 
-        pub towers-climb : (n : ℕ) → n ≡ next_span img p → (r : Walked) (out : List ℕ)
-            → FindsAt Done (Climb img u k n (entry_at img head) 1) r out → TowersIs r out
+        pub towers-climb : (n : ℕ) → n ≡ next_span img p → (r : Answer ℕ) (out : List ℕ)
+            → FindsAt Some (Climb img u k n (entry_at img head) 1) r out → TowersIs r out
         towers-climb n n-is r out f =
-            finds-same Done r out (record { to = towers-to; back = towers-back })
-            (subst (λ (x : ℕ). FindsAt Done (Climb img u k x (entry_at img head) 1) r out) n-is f)
+            finds-same (record { to = towers-to; back = towers-back })
+            (subst (λ (x : ℕ). FindsAt Some (Climb img u k x (entry_at img head) 1) r out) n-is f)

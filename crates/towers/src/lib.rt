@@ -6,7 +6,6 @@ ghost use Rattle.blockfile.specs.Layout.{Span};
 ghost use Rattle.pages.specs.Places.{Inside};
 ghost use Rattle.heads.specs.Claims.{Lent, Kept};
 ghost use Rattle.walks.specs.Found.{Decides, FindsAt};
-ghost use Rattle.walks.specs.declared.Walked.TheVariants.{Done};
 ghost use Rattle.towers.specs.Towers.{Spanned, HasSpans, TowersFound};
 ghost use Rattle.towers.specs.Climb.{Repeats, AllAre, Followed, Linked, HasWay, Reach, Tall, TowerFound, Placed, Climb, entry_at};
 
@@ -14,7 +13,6 @@ use heads::claim::{claim, head16, head32};
 use pages::mark::TOWER;
 use pages::read::get32;
 use pages::write::put_bytes;
-use walks::Walked;
 
 // The levels are the entries of a tower: the page expected at level i stands at 16 + 4·i of a page of their own.
 
@@ -86,46 +84,56 @@ fn is_tall(low: usize, high: usize, max: usize, height: usize) -> bool
 }
 
 // Claims the tower on `page`, whose current height must be `low` to `high`; answers that height.
-fn claim_tower(scratch: &mut [u8], page: usize, low: usize, high: usize) -> Walked
+fn claim_tower(scratch: &mut [u8], page: usize, low: usize, high: usize) -> Option<usize>
     requires { Kept scratch.old }
-    ensures { (img : List ℕ) → Lent img scratch.old → FindsAt Done (TowerFound img scratch.old low high page) result scratch.new }
+    ensures { (img : List ℕ) → Lent img scratch.old → FindsAt Some (TowerFound img scratch.old low high page) result scratch.new }
 {
     if !claim(scratch, page, TOWER) {
-        return Walked::Refused;
+        return None;
     }
     let height = head16(scratch, page, 10);
     if !is_tall(low, high, head16(scratch, page, 8), height) {
-        return Walked::Refused;
+        return None;
     }
-    Walked::Done(height)
+    Some(height)
 }
 
 // Claims the tower on `page`, which must stand on one of the spans from `start` on and be expected at each of its levels;
 // answers its height.
-fn place_tower(scratch: &mut [u8], levels: &[u8], start: usize, page: usize, top: usize) -> Walked
+fn place_tower(
+    scratch: &mut [u8],
+    levels: &[u8],
+    start: usize,
+    page: usize,
+    top: usize,
+) -> Option<usize>
     requires { (top ≤ 252) × (length levels.now ≡ 1024) × HasWay scratch.old start }
     ensures { (img : List ℕ) → Lent img scratch.old → Linked img start
-        → FindsAt Done (Placed img scratch.old top levels.now start page) result scratch.new }
+        → FindsAt Some (Placed img scratch.old top levels.now start page) result scratch.new }
 {
-    let Walked::Done(height) = claim_tower(scratch, page, 1, top) else {
-        return Walked::Refused;
-    };
+    let height = claim_tower(scratch, page, 1, top)?;
     let span = head32(scratch, page, 12);
     if !reaches(scratch, start, span) {
-        return Walked::Refused;
+        return None;
     }
     if !all_are(levels, height, page) {
-        return Walked::Refused;
+        return None;
     }
-    Walked::Done(height)
+    Some(height)
 }
 
 // Claims the towers of the spans from `start` on, where the first `top` entries of the head lead to them; answers their
 // number and 1, for the head. Each turn claims a tower, and each span is passed once in all. With `top` 0 no tower is
 // expected, and there is none. The next tower is read from this one's head and not from the levels, which takes less long.
-fn claim_others(image: &[u8], scratch: &mut [u8], head: usize, top: usize, start: usize) -> Walked
+fn claim_others(
+    image: &[u8],
+    scratch: &mut [u8],
+    head: usize,
+    top: usize,
+    start: usize,
+) -> Option<usize>
     requires { Lent image.now scratch.old × Inside image.now head 16 (4 * top) × Linked image.now start }
-    ensures { FindsAt Done (Climb image.now scratch.old top start (entry_at image.now head) 1) result scratch.new }
+    ensures { FindsAt Some (Climb image.now scratch.old top start (entry_at image.now head) 1) result scratch.new }
 {
     let mut levels = [0u8; 1024];
     follow(image, &mut levels, head, top);
@@ -133,9 +141,7 @@ fn claim_others(image: &[u8], scratch: &mut [u8], head: usize, top: usize, start
     let mut count = 1;
     let mut page = get32(&levels, 1, 16);
     while page != 0 {
-        let Walked::Done(height) = place_tower(scratch, &levels, next, page, top) else {
-            return Walked::Refused;
-        };
+        let height = place_tower(scratch, &levels, next, page, top)?;
         follow(image, &mut levels, page, height);
         let span = head32(scratch, page, 12);
         next = head32(scratch, span, 12);
@@ -143,23 +149,21 @@ fn claim_others(image: &[u8], scratch: &mut [u8], head: usize, top: usize, start
         page = head32(scratch, page, 16);
     }
     if !all_are(&levels, top, 0) {
-        return Walked::Refused;
+        return None;
     }
-    Walked::Done(count)
+    Some(count)
 }
 
 // Claims the head on `head`, which must stand on the span on `first`, and the towers of the spans after it; answers the
 // number of towers.
-pub fn verify_towers(image: &[u8], scratch: &mut [u8], head: usize, first: usize) -> Walked
+pub fn verify_towers(image: &[u8], scratch: &mut [u8], head: usize, first: usize) -> Option<usize>
     requires { Lent image.now scratch.old × HasSpans image.now first }
     ensures { (z : ℕ) (s : Span) (others : List Span) → Spanned image.now first z s others
-        → FindsAt Done (TowersFound image.now scratch.old head s others) result scratch.new }
+        → FindsAt Some (TowersFound image.now scratch.old head s others) result scratch.new }
 {
-    let Walked::Done(top) = claim_tower(scratch, head, 0, 252) else {
-        return Walked::Refused;
-    };
+    let top = claim_tower(scratch, head, 0, 252)?;
     if head32(scratch, head, 12) != first {
-        return Walked::Refused;
+        return None;
     }
     let start = head32(scratch, first, 12);
     claim_others(image, scratch, head, top, start)

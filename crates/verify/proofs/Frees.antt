@@ -12,10 +12,10 @@ use Rattle.blockfile.specs.Fields.{Numbers, IsBlock}
 use Rattle.blockfile.specs.WellFormed.{Piece, pages_of, Bears, block, free_page, free_pieces, first_block}
 use Rattle.heads.specs.Claims.{Lent, claimable, claimed, Claimed}
 use Rattle.pages.proofs.Begins.{begins-take, take_begins}
-use Rattle.walks.specs.declared.Walked.{Walked}
-use Rattle.walks.specs.declared.Walked.TheVariants.{Refused, Done}
+use Rattle.std.proofs.Common.{Option as Answer, Some, None}
+use Rattle.std.proofs.lemmas.Option.{none-some, same_Some}
 use Rattle.walks.specs.Found.{Open, claims, unclaimed, Found, FindsAt}
-use Rattle.walks.proofs.Founds.{SameAt, same_start, same_turn, finds-none, finds-done, done-injective, refused-never, found_none, found-join, found_first, found-second, found-lent, claimable-open, unclaimed-claims, length-claimed, length-claims}
+use Rattle.walks.proofs.Founds.{SameAt, same_start, same_turn, finds-none, finds-done, found_none, found-join, found_first, found-second, found-lent, claimable-open, unclaimed-claims, length-claimed, length-claims}
 use Rattle.walks.proofs.Pieces.{Single, found-claimable, found-rest, found-cons, claim-done, claim-not, claim-lent}
 use Rattle.verify.specs.Free.{numbers_at, ListedFound, BlockFound, FreeFound}
 
@@ -80,8 +80,10 @@ module _ (img scr₀ scr : List ℕ) (p count i : ℕ) (v : Listing img scr₀ s
   pub listing-end : (i < count → ⊥) → ListedIs img scr₀ p count true scr
   listing-end h =
       let z : count - i ≡ 0 = omega arith in
-      finds-done (λ (u : Unit {0}). true) true scr v.same (λ a b e. refl) tt refl (rw z (found_none img scr))
-      (λ b t f. (refl, sym (rw z at f.left)))
+      record {
+        sound = λ u e. v.same.to u scr (rw z (found_none img scr));
+        complete = λ u t f. let g = v.same.back u t f in (refl, sym (rw z at g.left));
+      }
 
   module _ (l : i < count) (n : ℕ) (is : n ≡ be32 (pg img p) (16 + 4 * i)) (r : Bool) (s : List ℕ) (c : Claimed img scr n 6 r s) where
     here : SameAt {A = Unit {0}} (λ u. ListedFound img scr p (16 + 4 * i) (suc (count - (i + 1)))) (λ u. ListedFound img scr₀ p 16 count)
@@ -89,8 +91,10 @@ module _ (img scr₀ scr : List ℕ) (p count i : ℕ) (v : Listing img scr₀ s
 
     pub listing-no : r ≡ false → ListedIs img scr₀ p count false s
     listing-no e =
-        finds-none (λ (u : Unit {0}). true) false s here (λ u q. true≢false (sym q))
-        (λ u t. never img scr p (16 + 4 * i) (count - (i + 1)) n is (claim-not img scr n 6 r s c e) t)
+        record {
+          sound = λ u q. absurd (true≢false (sym q));
+          complete = λ u t f. absurd (never img scr p (16 + 4 * i) (count - (i + 1)) n is (claim-not img scr n 6 r s c e) t (here.back u t f));
+        }
 
     pub listing-next : r ≡ true → Listing img scr₀ s p count (i + 1)
     listing-next e =
@@ -133,17 +137,17 @@ module _ (img scr : List ℕ) (p : ℕ) where
       record { listed = block_at.listed; few = omega arith; found = f; total = omega arith }
 
   module _ (r : Bool) (s : List ℕ) (c : Claimed img scr p 5 r s) where
-    pub block_no : r ≡ false → FindsAt Done (BlockFound img scr p) Refused s
+    pub block_no : r ≡ false → FindsAt Some (BlockFound img scr p) None s
     block_no e =
-        finds-none Done Refused s (same_start (BlockFound img scr p)) refused-never
+        finds-none (same_start (BlockFound img scr p))
         (λ m t f. true≢false
         (sym (found-claimable img scr (block block_at (be32 (pg img p) 8)) p 5 (block-single img p _ _) (map free_page block_at.listed) t (found-is m t f).2)
         ∙ claim-not img scr p 5 r s c e))
 
     module _ (e : r ≡ true) (n : ℕ) (is : n ≡ be32 (pg img p) 12) where
-      pub block-over : 252 < n → FindsAt Done (BlockFound img scr p) Refused s
+      pub block-over : 252 < n → FindsAt Some (BlockFound img scr p) None s
       block-over h =
-          finds-none Done Refused s (same_start (BlockFound img scr p)) refused-never (λ m t f. omega (arith, (found-is m t f).1))
+          finds-none (same_start (BlockFound img scr p)) (λ m t f. omega (arith, (found-is m t f).1))
 
       module _ (q : Bool) (t : List ℕ) (l : ListedIs img s p n q t) where
         listed-is : ListedIs img (claimed scr p) p (be32 (pg img p) 12) q t
@@ -152,12 +156,12 @@ module _ (img scr : List ℕ) (p : ℕ) where
         inner : (u : List ℕ) → Found img scr block_pieces u → ListedFound img (claimed scr p) p 16 (be32 (pg img p) 12) u
         inner u f = found-rest img scr (block block_at (be32 (pg img p) 8)) p 5 (block-single img p _ _) (map free_page block_at.listed) u f
 
-        pub block-not : q ≡ false → FindsAt Done (BlockFound img scr p) Refused t
+        pub block-not : q ≡ false → FindsAt Some (BlockFound img scr p) None t
         block-not h =
-            finds-none Done Refused t (same_start (BlockFound img scr p)) refused-never
+            finds-none (same_start (BlockFound img scr p))
             (λ m u f. true≢false (sym (listed-is.complete tt u (inner u (found-is m u f).2)).0 ∙ h))
 
-        pub block-done : n ≤ 252 → q ≡ true → FindsAt Done (BlockFound img scr p) (Done (1 + n)) t
+        pub block-done : n ≤ 252 → q ≡ true → FindsAt Some (BlockFound img scr p) (Some (1 + n)) t
         unfolding block_mark
         block-done few h =
             let d : (claimable img scr p 5 ≡ true) × (s ≡ claimed scr p) = claim-done img scr p 5 r s c e in
@@ -170,7 +174,7 @@ module _ (img scr : List ℕ) (p : ℕ) where
             } in
             let f : Found img scr block_pieces t
             = found-cons img scr (block block_at (be32 (pg img p) 8)) p 5 (block-single img p _ _) (map free_page block_at.listed) t d.0 b (listed-is.sound tt h) in
-            finds-done Done (Done (1 + n)) t (same_start (BlockFound img scr p)) done-injective (1 + n) refl
+            finds-done (same_start (BlockFound img scr p)) (1 + n)
             (subst (λ (m : ℕ). BlockFound img scr p (1 + m) t) (sym is) (is_found t (omega arith) f))
             (λ m u g. (omega (arith, (found-is m u g).0), (listed-is.complete tt u (inner u (found-is m u g).2)).1))
 
@@ -231,13 +235,13 @@ module _ (img scr : List ℕ) (p n : ℕ) where
             record { blocks = bs; first = sym x; few = h.1; found = found-second img scr own (free_pieces bs) out g; total = omega arith },
           )
 
-  module _ (z : p ≡ 0 → ⊥) (a : Walked) (s : List ℕ) (b : FindsAt Done (BlockFound img scr p) a s) where
-    chain-no : a ≡ Refused → (m : ℕ) (out : List ℕ) → FreeFound img scr p n m out → ⊥
+  module _ (z : p ≡ 0 → ⊥) (a : Answer ℕ) (s : List ℕ) (b : FindsAt Some (BlockFound img scr p) a s) where
+    chain-no : a ≡ None → (m : ℕ) (out : List ℕ) → FreeFound img scr p n m out → ⊥
     chain-no e m out f =
         let x = chain-split z m out f in
-        refused-never x.0 (sym e ∙ (b.complete x.0 x.1 x.2).0)
+        none-some x.0 (sym e ∙ (b.complete x.0 x.1 x.2).0)
 
-    chain_more : (k : ℕ) → a ≡ Done k → SameAt (FreeFound img s (be32 (pg img p) 8) (n + k)) (FreeFound img scr p n)
+    chain_more : (k : ℕ) → a ≡ Some k → SameAt (FreeFound img s (be32 (pg img p) 8) (n + k)) (FreeFound img scr p n)
     unfolding free_count
     chain_more k e =
         let f : BlockFound img scr p k s = b.sound k e in
@@ -253,7 +257,7 @@ module _ (img scr : List ℕ) (p n : ℕ) where
           back = λ m out g.
               let x = chain-split z m out g in
               let d = b.complete x.0 x.1 x.2 in
-              let j : x.0 ≡ k = done-injective x.0 k (sym d.0 ∙ e) in
+              let j : x.0 ≡ k = same_Some x.0 k (sym d.0 ∙ e) in
               subst (λ (i : ℕ). FreeFound img s (be32 (pg img p) 8) (n + i) m out) j
               (subst (λ (t : List ℕ). FreeFound img t (be32 (pg img p) 8) (n + x.0) m out) (sym d.1) x.3);
         }
@@ -269,14 +273,14 @@ pub freeing-start : (img scr : List ℕ) (start : ℕ) → Lent img scr → Free
 freeing-start img scr start lent = record { long = refl; lent = lent; used = omega arith; same = same_start (FreeFound img scr start 0) }
 
 module _ (img scr₀ : List ℕ) (start : ℕ) (scr : List ℕ) (p n : ℕ) (v : Freeing img scr₀ start scr p n) where
-  pub freeing-end : p ≡ 0 → FindsAt Done (FreeFound img scr₀ start 0) (Done n) scr
-  freeing-end e = finds-done Done (Done n) scr v.same done-injective n refl (chain-end img scr p n e) (chain-only img scr p n e)
+  pub freeing-end : p ≡ 0 → FindsAt Some (FreeFound img scr₀ start 0) (Some n) scr
+  freeing-end e = finds-done v.same n (chain-end img scr p n e) (chain-only img scr p n e)
 
-  module _ (z : p ≡ 0 → ⊥) (a : Walked) (s : List ℕ) (b : FindsAt Done (BlockFound img scr p) a s) where
-    pub freeing-no : a ≡ Refused → FindsAt Done (FreeFound img scr₀ start 0) Refused s
-    freeing-no e = finds-none Done Refused s v.same refused-never (chain-no img scr p n z a s b e)
+  module _ (z : p ≡ 0 → ⊥) (a : Answer ℕ) (s : List ℕ) (b : FindsAt Some (BlockFound img scr p) a s) where
+    pub freeing-no : a ≡ None → FindsAt Some (FreeFound img scr₀ start 0) None s
+    freeing-no e = finds-none v.same (chain-no img scr p n z a s b e)
 
-    pub freeing-next : (k m : ℕ) → a ≡ Done k → m ≡ be32 (pg img p) 8 → Freeing img scr₀ start s m (n + k)
+    pub freeing-next : (k m : ℕ) → a ≡ Some k → m ≡ be32 (pg img p) 8 → Freeing img scr₀ start s m (n + k)
     freeing-next k m e is =
         let t = block-turn img scr p k s (b.sound k e) in
         record {

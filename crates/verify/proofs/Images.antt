@@ -16,17 +16,14 @@ use Rattle.blockfile.proofs.Bools.{and_both, both-and, within-is}
 use Rattle.blockfile.proofs.Every.{every-so}
 use Rattle.heads.specs.Claims.{pages_in, Room, Lent, Headed, full}
 use Rattle.heads.proofs.Claims.{room-long}
-use Rattle.walks.specs.declared.Walked.{Walked}
-use Rattle.walks.specs.declared.Walked.TheVariants.{Refused, Done}
+use Rattle.std.proofs.Common.{Option as Answer, Some, None}
+use Rattle.std.proofs.lemmas.Option.{none-some, same_Some}
 use Rattle.walks.specs.Found.{claims, Fresh, Found, FindsAt}
-use Rattle.walks.proofs.Founds.{SameAt, same_turn, done-injective, refused-never, found-join, found_first, found-second, found-lent, fresh-left, fresh-right, length-claims}
+use Rattle.walks.proofs.Founds.{SameAt, same_turn, found-join, found_first, found-second, found-lent, fresh-left, fresh-right, length-claims}
 use Rattle.walks.proofs.Once.{AllOpen, claimed-once, once-claimed}
 use Rattle.search.specs.Spans.{Borne}
 use Rattle.order.specs.declared.sort.Sort.TheVariants.{Bytes}
 use Rattle.spans.proofs.PageClaims.{inside-fresh}
-use Rattle.verify.specs.declared.superblock.Started.{Started}
-use Rattle.verify.specs.declared.superblock.Started.TheVariants.{Begun, Refused as Unstarted}
-use Rattle.verify.specs.declared.image.Verdict.TheVariants.{Bad, Good}
 use Rattle.verify.specs.Free.{FreeFound}
 use Rattle.verify.specs.Superblock.{SuperFound}
 use Rattle.verify.specs.Tables.{TableFound, listing, keys_of, TablesFound, MetaOn}
@@ -96,7 +93,7 @@ pub record Listed (img : List ℕ) (p first : ℕ) (scr : List ℕ) (m : ℕ) (m
 
 -- ---- The superblock
 
-module _ (img scr : List ℕ) (r : Started) (s : List ℕ) (f : FindsAt Begun (SuperFound img scr) r s) where
+module _ (img scr : List ℕ) (r : Answer ℕ) (s : List ℕ) (f : FindsAt Some (SuperFound img scr) r s) where
   super-of : (c : Counts) (out : List ℕ) (w : Whole img scr c out)
       → SuperFound img scr (first_block w.layout.free) (claims scr (1 ∷ []))
   super-of c out w =
@@ -108,13 +105,11 @@ module _ (img scr : List ℕ) (r : Started) (s : List ℕ) (f : FindsAt Begun (S
             (table_pieces w.layout.meta ++ (tables_pieces w.layout.tables ++ free_pieces w.layout.free)) out w.found);
       }
 
-  pub no-super : r ≡ Unstarted → (c : Counts) (out : List ℕ) → Whole img scr c out → ⊥
+  pub no-super : r ≡ None → (c : Counts) (out : List ℕ) → Whole img scr c out → ⊥
   no-super e c out w =
-      let q : Unstarted ≡ Begun (first_block w.layout.free) = sym e ∙ (f.complete _ _ (super-of c out w)).0 in
-      let z : ◌≡◌ {A = ℕ} 0 1 = cc in
-      omega arith
+      none-some _ (sym e ∙ (f.complete _ _ (super-of c out w)).0)
 
-  pub past-super : (a : ℕ) → r ≡ Begun a → SameAt (Tabled img (pages_in scr) a s) (Whole img scr)
+  pub past-super : (a : ℕ) → r ≡ Some a → SameAt (Tabled img (pages_in scr) a s) (Whole img scr)
   past-super a e = record { to = to; back = back }
     where
       to : (c : Counts) (out : List ℕ) → Tabled img (pages_in scr) a s c out → Whole img scr c out
@@ -137,8 +132,7 @@ module _ (img scr : List ℕ) (r : Started) (s : List ℕ) (f : FindsAt Begun (S
       back : (c : Counts) (out : List ℕ) → Whole img scr c out → Tabled img (pages_in scr) a s c out
       back c out w =
           let d = f.complete _ _ (super-of c out w) in
-          let q : Begun a ≡ Begun (first_block w.layout.free) = sym e ∙ d.0 in
-          let i : a ≡ first_block w.layout.free = cc in
+          let i : a ≡ first_block w.layout.free = same_Some a _ (sym e ∙ d.0) in
           record {
             meta = w.layout.meta;
             tables = w.layout.tables;
@@ -188,7 +182,7 @@ name-key k h =
     let w : Within 1 255 (length k) = within-is 1 255 (length k) (and_both (within 1 255 (length k)) (all_within 0x21 0x7e k) h).0 in
     both-and (leb 1 (length k)) (leb (length k) 65535) (le→leb 1 (length k) w.0) (le→leb (length k) 65535 (omega arith))
 
-module _ (img : List ℕ) (p first : ℕ) (scr : List ℕ) (r : Walked) (s : List ℕ) (f : FindsAt Done (MetaFound img scr) r s) where
+module _ (img : List ℕ) (p first : ℕ) (scr : List ℕ) (r : Answer ℕ) (s : List ℕ) (f : FindsAt Some (MetaFound img scr) r s) where
   meta-of : (c : Counts) (out : List ℕ) (t : Tabled img p first scr c out) → MetaFound img scr (length (entries_of t.meta)) (claims scr (gather pages_of (table_pieces t.meta)))
   meta-of c out t =
       record {
@@ -200,13 +194,13 @@ module _ (img : List ℕ) (p first : ℕ) (scr : List ℕ) (r : Walked) (s : Lis
         keys = refl;
       }
 
-  pub no-meta : r ≡ Refused → (c : Counts) (out : List ℕ) → Tabled img p first scr c out → ⊥
-  no-meta e c out t = refused-never _ (sym e ∙ (f.complete _ _ (meta-of c out t)).0)
+  pub no-meta : r ≡ None → (c : Counts) (out : List ℕ) → Tabled img p first scr c out → ⊥
+  no-meta e c out t = none-some _ (sym e ∙ (f.complete _ _ (meta-of c out t)).0)
 
   names : (c : Counts) (out : List ℕ) (t : Tabled img p first scr c out) → length (entries_of t.meta) ≡ length t.tables
   names c out t = ap length t.meta_entries ∙ length-map t.tables listing
 
-  pub past-meta : (m : ℕ) → r ≡ Done m → SameAt (Named img p first scr m s) (Tabled img p first scr)
+  pub past-meta : (m : ℕ) → r ≡ Some m → SameAt (Named img p first scr m s) (Tabled img p first scr)
   unfolding meta-of
   past-meta m e = record { to = to; back = back }
     where
@@ -229,7 +223,7 @@ module _ (img : List ℕ) (p first : ℕ) (scr : List ℕ) (r : Walked) (s : Lis
       back : (c : Counts) (out : List ℕ) → Tabled img p first scr c out → Named img p first scr m s c out
       back c out t =
           let d = f.complete _ _ (meta-of c out t) in
-          let i : m ≡ length (entries_of t.meta) = done-injective m _ (sym e ∙ d.0) in
+          let i : m ≡ length (entries_of t.meta) = same_Some m _ (sym e ∙ d.0) in
           record {
             meta = record {
               table = t.meta;
@@ -253,8 +247,8 @@ module _ (img : List ℕ) (p first : ℕ) (scr : List ℕ) (r : Walked) (s : Lis
 -- ---- The named tables
 
 -- the walk over the tables that a metaindex names answers r and leaves the scratch s, whatever metaindex is read there
-module _ (img : List ℕ) (p first : ℕ) (scr : List ℕ) (m : ℕ) (mid : List ℕ) (r : Walked) (s : List ℕ)
-    (f : (x : MetaFound img scr m mid) → FindsAt Done (TablesFound img mid (entries_of x.table) 0) r s) where
+module _ (img : List ℕ) (p first : ℕ) (scr : List ℕ) (m : ℕ) (mid : List ℕ) (r : Answer ℕ) (s : List ℕ)
+    (f : (x : MetaFound img scr m mid) → FindsAt Some (TablesFound img mid (entries_of x.table) 0) r s) where
   tables-of : (c : Counts) (out : List ℕ) (n : Named img p first scr m mid c out)
       → TablesFound img mid (entries_of n.meta.table) 0 (keys_of n.tables) (claims mid (gather pages_of (tables_pieces n.tables)))
   tables-of c out n =
@@ -267,10 +261,10 @@ module _ (img : List ℕ) (p first : ℕ) (scr : List ℕ) (m : ℕ) (mid : List
         keys = omega arith;
       }
 
-  pub no-tables : r ≡ Refused → (c : Counts) (out : List ℕ) → Named img p first scr m mid c out → ⊥
-  no-tables e c out n = refused-never _ (sym e ∙ ((f n.meta).complete _ _ (tables-of c out n)).0)
+  pub no-tables : r ≡ None → (c : Counts) (out : List ℕ) → Named img p first scr m mid c out → ⊥
+  no-tables e c out n = none-some _ (sym e ∙ ((f n.meta).complete _ _ (tables-of c out n)).0)
 
-  pub past-tables : (k : ℕ) → r ≡ Done k → SameAt (Listed img p first scr m mid k s) (Named img p first scr m mid)
+  pub past-tables : (k : ℕ) → r ≡ Some k → SameAt (Listed img p first scr m mid k s) (Named img p first scr m mid)
   unfolding tables-of
   past-tables k e = record { to = to; back = back }
     where
@@ -292,7 +286,7 @@ module _ (img : List ℕ) (p first : ℕ) (scr : List ℕ) (m : ℕ) (mid : List
       back : (c : Counts) (out : List ℕ) → Named img p first scr m mid c out → Listed img p first scr m mid k s c out
       back c out n =
           let d = (f n.meta).complete _ _ (tables-of c out n) in
-          let i : k ≡ keys_of n.tables = done-injective k _ (sym e ∙ d.0) in
+          let i : k ≡ keys_of n.tables = same_Some k _ (sym e ∙ d.0) in
           record {
             meta = n.meta;
             tables = record {
@@ -312,21 +306,21 @@ module _ (img : List ℕ) (p first : ℕ) (scr : List ℕ) (m : ℕ) (mid : List
 
 -- ---- The free list
 
-module _ (img : List ℕ) (p first : ℕ) (scr : List ℕ) (m : ℕ) (mid : List ℕ) (k : ℕ) (late : List ℕ) (r : Walked) (s : List ℕ)
-    (f : FindsAt Done (FreeFound img late first 0) r s) where
+module _ (img : List ℕ) (p first : ℕ) (scr : List ℕ) (m : ℕ) (mid : List ℕ) (k : ℕ) (late : List ℕ) (r : Answer ℕ) (s : List ℕ)
+    (f : FindsAt Some (FreeFound img late first 0) r s) where
   free_of : (c : Counts) (out : List ℕ) (l : Listed img p first scr m mid k late c out) → FreeFound img late first 0 (free_count l.free) out
   free_of c out l = record { blocks = l.free; first = l.start; few = l.blocks_ok; found = l.found; total = omega arith }
 
-  pub no-free : r ≡ Refused → (c : Counts) (out : List ℕ) → Listed img p first scr m mid k late c out → ⊥
-  no-free e c out l = refused-never _ (sym e ∙ (f.complete _ _ (free_of c out l)).0)
+  pub no-free : r ≡ None → (c : Counts) (out : List ℕ) → Listed img p first scr m mid k late c out → ⊥
+  no-free e c out l = none-some _ (sym e ∙ (f.complete _ _ (free_of c out l)).0)
 
   -- what is found then, and nothing else
-  pub free-only : (n : ℕ) → r ≡ Done n → (c : Counts) (out : List ℕ) → Listed img p first scr m mid k late c out → (c ≡ counted p m k n) × (out ≡ s)
+  pub free-only : (n : ℕ) → r ≡ Some n → (c : Counts) (out : List ℕ) → Listed img p first scr m mid k late c out → (c ≡ counted p m k n) × (out ≡ s)
   free-only n e c out l =
       let d = f.complete _ _ (free_of c out l) in
-      (l.counts ∙ ap (counted p m k) (sym (done-injective n _ (sym e ∙ d.0))), sym d.1)
+      (l.counts ∙ ap (counted p m k) (sym (same_Some n _ (sym e ∙ d.0))), sym d.1)
 
-  pub free-there : (n : ℕ) → r ≡ Done n → (x : MetaFound img scr m mid) → TablesFound img mid (entries_of x.table) 0 k late → Listed img p first scr m mid k late (counted p m k n) s
+  pub free-there : (n : ℕ) → r ≡ Some n → (x : MetaFound img scr m mid) → TablesFound img mid (entries_of x.table) 0 k late → Listed img p first scr m mid k late (counted p m k n) s
   free-there n e x t =
       let g : FreeFound img late first 0 n s = f.sound n e in
       record {
@@ -398,18 +392,18 @@ module _ (img : List ℕ) (p : ℕ) (size : length img ≡ 1024 * p) (range : Wi
       once-at : ℕ → ℕ → ℕ
       once-at k n = cond (within 1 k n) 1 0
 
-  pub verdict-bad : ((c : Counts) (out : List ℕ) → Whole img scr c out → AtEnd img c out → ⊥) → Judged img Bad
+  pub verdict-bad : ((c : Counts) (out : List ℕ) → Whole img scr c out → AtEnd img c out → ⊥) → Judged img None
   verdict-bad n =
       record {
-        sound = λ c e. absurd (let z : ◌≡◌ {A = ℕ} 0 1 = cc in omega arith);
+        sound = λ c e. absurd (none-some c e);
         complete = λ L w. let x = whole L w in absurd (n (counts_of L) x.0 x.1 x.2);
       }
 
-  pub verdict-good : (c : Counts) (out : List ℕ) → Whole img scr c out → AtEnd img c out → ((d : Counts) (t : List ℕ) → Whole img scr d t → d ≡ c) → Judged img (Good c)
+  pub verdict-good : (c : Counts) (out : List ℕ) → Whole img scr c out → AtEnd img c out → ((d : Counts) (t : List ℕ) → Whole img scr d t → d ≡ c) → Judged img (Some c)
   verdict-good c out w e only =
       record {
-        sound = λ d q. let i : c ≡ d = cc in (w.layout, well c out w e, sym i ∙ w.counts);
-        complete = λ L x. let y = whole L x in ap Good (sym (only (counts_of L) y.0 y.1));
+        sound = λ d q. let i : c ≡ d = same_Some c d q in (w.layout, well c out w e, sym i ∙ w.counts);
+        complete = λ L x. let y = whole L x in ap Some (sym (only (counts_of L) y.0 y.1));
       }
 
 -- ---- The metaindex that was found, to be read
@@ -442,66 +436,66 @@ module _ (img scr : List ℕ) (headed : Headed img scr) (enough : 4096 ≤ lengt
   all-open : AllOpen (pages_in scr) scr
   all-open = record { long = headed.lent.room.whole; free = headed.unclaimed }
 
-  bad : ((c : Counts) (out : List ℕ) → Whole img scr c out → AtEnd img c out → ⊥) → Judged img Bad
+  bad : ((c : Counts) (out : List ℕ) → Whole img scr c out → AtEnd img c out → ⊥) → Judged img None
   bad = verdict-bad img (pages_in scr) size range scr all-open
 
-  module _ (r : Started) (s : List ℕ) (f : FindsAt Begun (SuperFound img scr) r s) where
-    pub bad-super : r ≡ Unstarted → Judged img Bad
+  module _ (r : Answer ℕ) (s : List ℕ) (f : FindsAt Some (SuperFound img scr) r s) where
+    pub bad-super : r ≡ None → Judged img None
     bad-super q = bad (λ c out w e. no-super img scr r s f q c out w)
 
-    pub super-lent : (a : ℕ) → r ≡ Begun a → Lent img s
+    pub super-lent : (a : ℕ) → r ≡ Some a → Lent img s
     super-lent a e = found-lent headed.lent (f.sound a e).found
 
-    module _ (a : ℕ) (e : r ≡ Begun a) (r₁ : Walked) (s₁ : List ℕ) (f₁ : FindsAt Done (MetaFound img s) r₁ s₁) where
+    module _ (a : ℕ) (e : r ≡ Some a) (r₁ : Answer ℕ) (s₁ : List ℕ) (f₁ : FindsAt Some (MetaFound img s) r₁ s₁) where
       started : SameAt (Tabled img (pages_in scr) a s) (Whole img scr)
       started = past-super img scr r s f a e
 
-      pub bad-meta : r₁ ≡ Refused → Judged img Bad
+      pub bad-meta : r₁ ≡ None → Judged img None
       bad-meta q = bad (λ c out w e. no-meta img (pages_in scr) a s r₁ s₁ f₁ q c out (started.back c out w))
 
-      module _ (m : ℕ) (e₁ : r₁ ≡ Done m) where
+      module _ (m : ℕ) (e₁ : r₁ ≡ Some m) where
         pub meta-there : (meta : Table) × MetaOn img meta
         meta-there = let x : MetaFound img s m s₁ = f₁.sound m e₁ in (x.table, meta-on img s m s₁ (super-lent a e) x)
 
         pub meta-lent : Lent img s₁
         meta-lent = found-lent (super-lent a e) (f₁.sound m e₁).found
 
-        module _ (r₂ : Walked) (s₂ : List ℕ) (f₂ : (meta : Table) → MetaOn img meta → FindsAt Done (TablesFound img s₁ (entries_of meta) 0) r₂ s₂) where
-          walked : (x : MetaFound img s m s₁) → FindsAt Done (TablesFound img s₁ (entries_of x.table) 0) r₂ s₂
+        module _ (r₂ : Answer ℕ) (s₂ : List ℕ) (f₂ : (meta : Table) → MetaOn img meta → FindsAt Some (TablesFound img s₁ (entries_of meta) 0) r₂ s₂) where
+          walked : (x : MetaFound img s m s₁) → FindsAt Some (TablesFound img s₁ (entries_of x.table) 0) r₂ s₂
           walked x = f₂ x.table (meta-on img s m s₁ (super-lent a e) x)
 
           known : SameAt (Named img (pages_in scr) a s m s₁) (Whole img scr)
           known = same_turn (past-meta img (pages_in scr) a s r₁ s₁ f₁ m e₁) started
 
-          pub bad-tables : r₂ ≡ Refused → Judged img Bad
+          pub bad-tables : r₂ ≡ None → Judged img None
           bad-tables q = bad (λ c out w e. no-tables img (pages_in scr) a s m s₁ r₂ s₂ walked q c out (known.back c out w))
 
-          pub tables-lent : (k : ℕ) → r₂ ≡ Done k → Lent img s₂
+          pub tables-lent : (k : ℕ) → r₂ ≡ Some k → Lent img s₂
           tables-lent k e₂ = found-lent meta-lent ((walked (f₁.sound m e₁)).sound k e₂).found
 
-          module _ (k : ℕ) (e₂ : r₂ ≡ Done k) (r₃ : Walked) (s₃ : List ℕ) (f₃ : FindsAt Done (FreeFound img s₂ a 0) r₃ s₃) where
+          module _ (k : ℕ) (e₂ : r₂ ≡ Some k) (r₃ : Answer ℕ) (s₃ : List ℕ) (f₃ : FindsAt Some (FreeFound img s₂ a 0) r₃ s₃) where
             tabled : SameAt (Listed img (pages_in scr) a s m s₁ k s₂) (Whole img scr)
             tabled = same_turn (past-tables img (pages_in scr) a s m s₁ r₂ s₂ walked k e₂) known
 
-            pub bad-free : r₃ ≡ Refused → Judged img Bad
+            pub bad-free : r₃ ≡ None → Judged img None
             bad-free q = bad (λ c out w e. no-free img (pages_in scr) a s m s₁ k s₂ r₃ s₃ f₃ q c out (tabled.back c out w))
 
-            module _ (n : ℕ) (e₃ : r₃ ≡ Done n) where
+            module _ (n : ℕ) (e₃ : r₃ ≡ Some n) where
               only : (c : Counts) (out : List ℕ) → Whole img scr c out → (c ≡ counted (pages_in scr) m k n) × (out ≡ s₃)
               only c out w = free-only img (pages_in scr) a s m s₁ k s₂ r₃ s₃ f₃ n e₃ c out (tabled.back c out w)
 
-              pub bad-unowned : full s₃ ≡ false → Judged img Bad
+              pub bad-unowned : full s₃ ≡ false → Judged img None
               bad-unowned q = bad (λ c out w e. true≢false (sym e.all ∙ ap full (only c out w).1 ∙ q))
 
-              pub bad-kept : (KeptCount n (be32 (pg img 1) 28) → ⊥) → Judged img Bad
+              pub bad-kept : (KeptCount n (be32 (pg img 1) 28) → ⊥) → Judged img None
               bad-kept q = bad (λ c out w e. q (subst (λ (d : Counts). KeptCount d.free (be32 (pg img 1) 28)) (only c out w).0 e.kept))
 
-              pub good : (p : ℕ) → p ≡ pages_in scr → full s₃ ≡ true → KeptCount n (be32 (pg img 1) 28) → Judged img (Good (counted p m k n))
+              pub good : (p : ℕ) → p ≡ pages_in scr → full s₃ ≡ true → KeptCount n (be32 (pg img 1) 28) → Judged img (Some (counted p m k n))
               good p i q kept =
                   let x : MetaFound img s m s₁ = f₁.sound m e₁ in
                   let l : Listed img (pages_in scr) a s m s₁ k s₂ (counted (pages_in scr) m k n) s₃
                   = free-there img (pages_in scr) a s m s₁ k s₂ r₃ s₃ f₃ n e₃ x ((walked x).sound k e₂) in
-                  subst (λ (x : ℕ). Judged img (Good (counted x m k n))) (sym i)
+                  subst (λ (x : ℕ). Judged img (Some (counted x m k n))) (sym i)
                   (verdict-good img (pages_in scr) size range scr all-open (counted (pages_in scr) m k n) s₃
                   (tabled.to (counted (pages_in scr) m k n) s₃ l) (record { all = q; kept = kept })
                   (λ d t w. (only d t w).0))

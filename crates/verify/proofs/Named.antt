@@ -20,10 +20,10 @@ use Rattle.laws.proofs.Lists.{agree_left}
 use Rattle.laws.proofs.Places.{gather_append}
 use Rattle.laws.proofs.Fitting.{many-entries}
 use Rattle.heads.specs.Claims.{Lent}
-use Rattle.walks.specs.declared.Walked.{Walked}
-use Rattle.walks.specs.declared.Walked.TheVariants.{Refused, Done}
+use Rattle.std.proofs.Common.{Option as Answer, Some, None}
+use Rattle.std.proofs.lemmas.Option.{none-some, same_Some}
 use Rattle.walks.specs.Found.{Open, claims, unclaimed, Found, FindsAt}
-use Rattle.walks.proofs.Founds.{SameAt, same_start, same_turn, finds-none, finds-done, done-injective, refused-never, found_none, found-join, found_first, found-second, found-lent, unclaimed-claims, length-claims}
+use Rattle.walks.proofs.Founds.{SameAt, same_start, same_turn, finds-none, finds-done, found_none, found-join, found_first, found-second, found-lent, unclaimed-claims, length-claims}
 use Rattle.entries.specs.declared.place.Place.{Place}
 use Rattle.entries.specs.declared.place.Sizes.{Sizes}
 use Rattle.entries.specs.Places.{IsPage, Enough, Moved, gap, Measured, Numbered}
@@ -207,18 +207,18 @@ module _ (img scr : List ℕ) (lent : Lent img scr) (e : Entry) (es : List Entry
         keys = omega (arith, f.keys, t.keys);
       }
 
-  module _ (r : Walked) (s : List ℕ) (f : FindsAt Done (TableFound sort img scr root) r s) where
-    pub name-no : r ≡ Refused → (m : ℕ) (out : List ℕ) → TablesFound img scr (e ∷ es) n m out → ⊥
-    name-no q m out x = refused-never _ (sym q ∙ (f.complete _ _ (parted m out x).first).0)
+  module _ (r : Answer ℕ) (s : List ℕ) (f : FindsAt Some (TableFound sort img scr root) r s) where
+    pub name-no : r ≡ None → (m : ℕ) (out : List ℕ) → TablesFound img scr (e ∷ es) n m out → ⊥
+    name-no q m out x = none-some _ (sym q ∙ (f.complete _ _ (parted m out x).first).0)
 
-    pub name-next : (k : ℕ) → r ≡ Done k → SameAt (TablesFound img s es (n + k)) (TablesFound img scr (e ∷ es) n)
+    pub name-next : (k : ℕ) → r ≡ Some k → SameAt (TablesFound img s es (n + k)) (TablesFound img scr (e ∷ es) n)
     name-next k q =
         record {
           to = λ m out x. joined k s m out (f.sound k q) x;
           back = λ m out x.
               let p : Parted m out = parted m out x in
               let d = f.complete _ _ p.first in
-              let i : k ≡ p.keys = done-injective k p.keys (sym q ∙ d.0) in
+              let i : k ≡ p.keys = same_Some k p.keys (sym q ∙ d.0) in
               subst (λ (j : ℕ). TablesFound img s es (n + j) m out) (sym i) (subst (λ (u : List ℕ). TablesFound img u es (n + p.keys) m out) (sym d.1) p.rest);
         }
 
@@ -233,9 +233,9 @@ only_none img scr n m out [] q f k = (omega arith, sym f.left)
 only_none img scr n m out (t ∷ ts) q f k = absurd (nil≢cons q)
 
 -- with no entry left, the walk is done
-names-end : (img scr : List ℕ) (n : ℕ) (G : ℕ → List ℕ → Type 0) → SameAt (TablesFound img scr [] n) G → FindsAt Done G (Done n) scr
+names-end : (img scr : List ℕ) (n : ℕ) (G : ℕ → List ℕ → Type 0) → SameAt (TablesFound img scr [] n) G → FindsAt Some G (Some n) scr
 names-end img scr n G same =
-    finds-done Done (Done n) scr same done-injective n refl (no_names img scr n) (λ m t f. only_none img scr n m t f.tables f.named f.found f.keys)
+    finds-done same n (no_names img scr n) (λ m t f. only_none img scr n m t f.tables f.named f.found f.keys)
 
 pub record Naming (img scr₀ : List ℕ) (es : List Entry) (before : ℕ) (scr : List ℕ) (at : Place) (left keys : ℕ) : Type 0 where
   pub rest : List Entry
@@ -262,11 +262,11 @@ naming-start img scr page before lent es h n e =
     }
 
 module _ {img scr₀ : List ℕ} {es : List Entry} {before : ℕ} {scr : List ℕ} {at : Place} {left keys : ℕ} (v : Naming img scr₀ es before scr at left keys) where
-  pub naming-end : left ≡ 0 → FindsAt Done (TablesFound img scr₀ es before) (Done keys) scr
+  pub naming-end : left ≡ 0 → FindsAt Some (TablesFound img scr₀ es before) (Some keys) scr
   naming-end z = go v.rest v.count v.same
     where
       go : (rest : List Entry) → left ≡ length rest → SameAt (TablesFound img scr rest keys) (TablesFound img scr₀ es before)
-          → FindsAt Done (TablesFound img scr₀ es before) (Done keys) scr
+          → FindsAt Some (TablesFound img scr₀ es before) (Some keys) scr
       go [] c same = names-end img scr keys (TablesFound img scr₀ es before) same
       go (e ∷ rest) c same = absurd (omega arith)
 
@@ -313,9 +313,9 @@ module _ {img scr₀ : List ℕ} {es : List Entry} {before : ℕ} {scr : List �
         fit : legal ≡ is_name turn.first.key (length turn.first.value)
         fit = a.is turn.first.key (bytes-key entry.key) ∙ ap (is_name turn.first.key) (sym value-long)
 
-        pub naming-unnamed : legal ≡ false → FindsAt Done (TablesFound img scr₀ es before) Refused scr
+        pub naming-unnamed : legal ≡ false → FindsAt Some (TablesFound img scr₀ es before) None scr
         naming-unnamed e =
-            finds-none Done Refused scr turn.same refused-never
+            finds-none turn.same
             (λ m out f. true≢false (sym (listing-fits turn.first turn.more f.tables f.names.0 f.named) ∙ (sym fit ∙ e)))
 
         module _ (passed : legal ≡ true) where
@@ -334,8 +334,8 @@ module _ {img scr₀ : List ℕ} {es : List Entry} {before : ℕ} {scr : List �
                 let v : BytesAt img p g.value turn.first.value = value in
                 record { bytes = v.bytes; rest = v.rest; long = omega (arith, v.long, value-long, four) }
 
-            module _ (bytes : (i : ℕ) → get_or img i 0 < 256) (root : ℕ) (is : Numbered img p root) (sort : Sort) (by : SortAt img g.after g.key sort) (r : Walked) (s : List ℕ)
-                (f : FindsAt Done (TableFound sort img scr root) r s) where
+            module _ (bytes : (i : ℕ) → get_or img i 0 < 256) (root : ℕ) (is : Numbered img p root) (sort : Sort) (by : SortAt img g.after g.key sort) (r : Answer ℕ) (s : List ℕ)
+                (f : FindsAt Some (TableFound sort img scr root) r s) where
               word : turn.first.value ≡ word32 root
               word = value-word img bytes p g.value turn.first.value value four root is
 
@@ -345,12 +345,12 @@ module _ {img scr₀ : List ℕ} {es : List Entry} {before : ℕ} {scr : List �
               small : root < 4294967296
               small = value-below img bytes p g.value turn.first.value value four root is
 
-              pub naming-no : r ≡ Refused → FindsAt Done (TablesFound img scr₀ es before) Refused s
+              pub naming-no : r ≡ None → FindsAt Some (TablesFound img scr₀ es before) None s
               naming-no e =
-                  finds-none Done Refused s turn.same refused-never
+                  finds-none turn.same
                   (name-no img scr v.lent turn.first turn.more keys root parts.1 word small sort sorted r s f e)
 
-              pub naming-next : (k : ℕ) → r ≡ Done k → (q : Place) → Moved img g.after (g.key + g.value) q → Naming img scr₀ es before s q (left - 1) (keys + k)
+              pub naming-next : (k : ℕ) → r ≡ Some k → (q : Place) → Moved img g.after (g.key + g.value) q → Naming img scr₀ es before s q (left - 1) (keys + k)
               naming-next k e q on =
                   let b : (k + 128 * unclaimed s ≤ 128 * unclaimed scr) × (length s ≡ length scr) = table-fewer img scr root k s (f.sound k e) in
                   record {
@@ -441,18 +441,18 @@ module _ (img scr : List ℕ) (es fs : List Entry) (n : ℕ) where
         keys = omega (arith, x.keys, y.keys, keys-append x.tables y.tables);
       }
 
-  module _ (r : Walked) (s : List ℕ) (f : FindsAt Done (TablesFound img scr es n) r s) where
-    names-no : r ≡ Refused → (m : ℕ) (out : List ℕ) → TablesFound img scr (es ++ fs) n m out → ⊥
-    names-no q m out x = refused-never _ (sym q ∙ (f.complete _ _ (halves m out x).first).0)
+  module _ (r : Answer ℕ) (s : List ℕ) (f : FindsAt Some (TablesFound img scr es n) r s) where
+    names-no : r ≡ None → (m : ℕ) (out : List ℕ) → TablesFound img scr (es ++ fs) n m out → ⊥
+    names-no q m out x = none-some _ (sym q ∙ (f.complete _ _ (halves m out x).first).0)
 
-    names-next : (k : ℕ) → r ≡ Done k → SameAt (TablesFound img s fs k) (TablesFound img scr (es ++ fs) n)
+    names-next : (k : ℕ) → r ≡ Some k → SameAt (TablesFound img s fs k) (TablesFound img scr (es ++ fs) n)
     names-next k q =
         record {
           to = λ m out x. whole k s m out (f.sound k q) x;
           back = λ m out x.
               let h : Halves m out = halves m out x in
               let d = f.complete _ _ h.first in
-              let i : k ≡ h.keys = done-injective k h.keys (sym q ∙ d.0) in
+              let i : k ≡ h.keys = same_Some k h.keys (sym q ∙ d.0) in
               subst (λ (j : ℕ). TablesFound img s fs j m out) (sym i) (subst (λ (u : List ℕ). TablesFound img u fs h.keys m out) (sym d.1) h.rest);
         }
 
@@ -495,11 +495,11 @@ module _ (img scr : List ℕ) (meta : Table) (h : MetaOn img meta) where
       }
 
 module _ {img scr₀ : List ℕ} {meta : Table} {scr : List ℕ} {page left keys : ℕ} (v : Tabling img scr₀ meta scr page left keys) where
-  pub tabling-end : left ≡ 0 → FindsAt Done (TablesFound img scr₀ (entries_of meta) 0) (Done keys) scr
+  pub tabling-end : left ≡ 0 → FindsAt Some (TablesFound img scr₀ (entries_of meta) 0) (Some keys) scr
   tabling-end z = go v.rest v.count v.same
     where
       go : (rest : List Span) → left ≡ length rest → SameAt (TablesFound img scr (entries_in rest) keys) (TablesFound img scr₀ (entries_of meta) 0)
-          → FindsAt Done (TablesFound img scr₀ (entries_of meta) 0) (Done keys) scr
+          → FindsAt Some (TablesFound img scr₀ (entries_of meta) 0) (Some keys) scr
       go [] c same = names-end img scr keys (TablesFound img scr₀ (entries_of meta) 0) same
       go (s ∷ rest) c same = absurd (omega arith)
 
@@ -548,15 +548,15 @@ module _ {img scr₀ : List ℕ} {meta : Table} {scr : List ℕ} {page left keys
     pub tabling-names : (es : List Entry) × NamesOn img page es
     tabling-names = (ahead.first.entries, ahead.names)
 
-    module _ (r : Walked) (s : List ℕ) (f : (es : List Entry) → NamesOn img page es → FindsAt Done (TablesFound img scr es keys) r s) where
-      here : FindsAt Done (TablesFound img scr ahead.first.entries keys) r s
+    module _ (r : Answer ℕ) (s : List ℕ) (f : (es : List Entry) → NamesOn img page es → FindsAt Some (TablesFound img scr es keys) r s) where
+      here : FindsAt Some (TablesFound img scr ahead.first.entries keys) r s
       here = f ahead.first.entries ahead.names
 
-      pub tabling-no : r ≡ Refused → FindsAt Done (TablesFound img scr₀ (entries_of meta) 0) Refused s
+      pub tabling-no : r ≡ None → FindsAt Some (TablesFound img scr₀ (entries_of meta) 0) None s
       tabling-no e =
-          finds-none Done Refused s ahead.same refused-never (names-no img scr ahead.first.entries (entries_in ahead.more) keys r s here e)
+          finds-none ahead.same (names-no img scr ahead.first.entries (entries_in ahead.more) keys r s here e)
 
-      pub tabling-next : (k : ℕ) → r ≡ Done k → length s ≡ length scr → (n : ℕ) → n ≡ be32 (pg img page) 12 → Tabling img scr₀ meta s n (left - 1) k
+      pub tabling-next : (k : ℕ) → r ≡ Some k → length s ≡ length scr → (n : ℕ) → n ≡ be32 (pg img page) 12 → Tabling img scr₀ meta s n (left - 1) k
       tabling-next k e l n q =
           record {
             small = v.small;

@@ -6,6 +6,7 @@ use mathlib.Core.Bool.{Bool, true, false, true≢false}
 use mathlib.Core.Logic.{inl, inr}
 use mathlib.Core.List.{List, []}
 use lib.ListN.{get_or}
+use Rattle.std.proofs.Common.{Some, None}
 use Rattle.blockfile.specs.Bytes.{pg, be16, be32, be64}
 use Rattle.blockfile.specs.Marks.{super_mark}
 use Rattle.blockfile.specs.Order.{Within}
@@ -17,7 +18,6 @@ use Rattle.pages.proofs.Begins.{begins-take, take_begins}
 use Rattle.walks.specs.Found.{Decides, FindsAt}
 use Rattle.walks.proofs.Founds.{decides-true, decides-false, same_start, finds-none, finds-done, found_none, claimable-open}
 use Rattle.walks.proofs.Pieces.{Single, found-claimable, found-rest, found-cons, claim-done, claim-not}
-use Rattle.verify.specs.declared.superblock.Started.TheVariants.{Refused, Begun}
 use Rattle.verify.specs.Superblock.{Fixed, SuperFound}
 
 -- ---- The fields that are the same in every image
@@ -52,27 +52,21 @@ super-single : (img : List ℕ) (p f z : ℕ) → Single img (superblock p f z) 
 unfolding super_mark
 super-single img p f z = record { page = refl; mark = λ b. take_begins super_mark (pg img 1) b.mark }
 
-begun-injective : (a b : ℕ) → Begun a ≡ Begun b → a ≡ b
-begun-injective a b e = cc
-
-refused-never : (a : ℕ) → Refused ≡ Begun a → ⊥
-refused-never a e = let z : ◌≡◌ {A = ℕ} 0 1 = cc in omega arith
-
 module _ (img scr : List ℕ) where
-  none : (s : List ℕ) → ((a : ℕ) (t : List ℕ) → SuperFound img scr a t → ⊥) → FindsAt Begun (SuperFound img scr) Refused s
-  none s n = finds-none Begun Refused s (same_start (SuperFound img scr)) refused-never n
+  none : (s : List ℕ) → ((a : ℕ) (t : List ℕ) → SuperFound img scr a t → ⊥) → FindsAt Some (SuperFound img scr) None s
+  none s n = finds-none (same_start (SuperFound img scr)) n
 
   fields : (a : ℕ) (t : List ℕ) (f : SuperFound img scr a t) → IsSuperblock (pages_in scr) a f.size (pg img 1)
   fields a t f = f.found.bears.0
 
   module _ (r : Bool) (s : List ℕ) (c : Claimed img scr 1 0 r s) where
-    pub super-no : r ≡ false → FindsAt Begun (SuperFound img scr) Refused s
+    pub super-no : r ≡ false → FindsAt Some (SuperFound img scr) None s
     super-no e =
         none s (λ a t f. true≢false
         (sym (found-claimable img scr (superblock (pages_in scr) a f.size) 1 0 (super-single img _ _ _) [] t f.found) ∙ claim-not img scr 1 0 r s c e))
 
     module _ (e : r ≡ true) (n : ℕ) (is : n ≡ pages_in scr) (q : Bool) (d : Decides (Fixed n (pg img 1)) q) where
-      pub super-unfixed : q ≡ false → FindsAt Begun (SuperFound img scr) Refused s
+      pub super-unfixed : q ≡ false → FindsAt Some (SuperFound img scr) None s
       super-unfixed h =
           none s (λ a t f.
           let i : IsSuperblock (pages_in scr) a f.size (pg img 1) = fields a t f in
@@ -80,14 +74,14 @@ module _ (img scr : List ℕ) where
           (sym (d.complete (subst (λ (m : ℕ). Fixed m (pg img 1)) (sym is) (record { major = i.major; minor = i.minor; file_length = i.file_length; page_size = i.page_size })))
           ∙ h))
 
-      pub super-mounted : 1 < be16 (pg img 1) 20 → FindsAt Begun (SuperFound img scr) Refused s
+      pub super-mounted : 1 < be16 (pg img 1) 20 → FindsAt Some (SuperFound img scr) None s
       super-mounted h = none s (λ a t f. let i = fields a t f in omega (arith, i.mounted))
 
-      pub super-size : (Within 2 128 (be16 (pg img 1) 22) → ⊥) → FindsAt Begun (SuperFound img scr) Refused s
+      pub super-size : (Within 2 128 (be16 (pg img 1) 22) → ⊥) → FindsAt Some (SuperFound img scr) None s
       super-size h = none s (λ a t f. let i = fields a t f in h (subst (Within 2 128) (sym i.span_size) f.range))
 
       pub super-done : q ≡ true → be16 (pg img 1) 20 ≤ 1 → (a : ℕ) → a ≡ be32 (pg img 1) 16 → (z : ℕ) → z ≡ be16 (pg img 1) 22 → Within 2 128 z
-          → FindsAt Begun (SuperFound img scr) (Begun a) s
+          → FindsAt Some (SuperFound img scr) (Some a) s
       unfolding super_mark
       super-done h m a fr z sz w =
           let k : (claimable img scr 1 0 ≡ true) × (s ≡ claimed scr 1) = claim-done img scr 1 0 r s c e in
@@ -103,7 +97,7 @@ module _ (img scr : List ℕ) where
             span_size = sym sz;
             page_size = x.page_size;
           } in
-          finds-done Begun (Begun a) s (same_start (SuperFound img scr)) begun-injective a refl
+          finds-done (same_start (SuperFound img scr)) a
           (record {
             size = z;
             range = w;

@@ -1,6 +1,5 @@
 -- A table: its spans and its towers joined, and its skip-list page.
 use Prim.Native.Nat.{ℕ, suc, ◌≤◌}
-use native.Mathlib.Omega.{arith}
 use mathlib.Core.Path.{◌≡◌, refl, ap, sym, ◌∙◌, subst}
 use mathlib.Core.Bool.{Bool, true, false, true≢false}
 use mathlib.Core.Option.{some}
@@ -14,21 +13,19 @@ use Rattle.blockfile.specs.Fields.{SkipList, IsSkipList}
 use Rattle.blockfile.specs.WellFormed.{span, tower, skip_list, pages_of, link_spans, link_towers, spans_in, towers_in, skip_list_of}
 use Rattle.heads.specs.Claims.{Lent, claimable, claimed, Claimed}
 use Rattle.pages.proofs.Begins.{begins-take, take_begins}
-use Rattle.walks.specs.declared.Walked.{Walked}
-use Rattle.walks.specs.declared.Walked.TheVariants.{Refused, Done}
+use Rattle.std.proofs.Common.{Option as Answer, Some, None}
+use Rattle.std.proofs.lemmas.Option.{none-some, same_Some}
 use Rattle.walks.specs.Found.{claims, Found, Decides, FindsAt}
-use Rattle.walks.proofs.Founds.{decides-false, same_start, finds-none, finds-done, done-injective, refused-never, found-join, found_first, found-second, found-lent, claimable-open}
+use Rattle.walks.proofs.Founds.{decides-false, same_start, finds-none, finds-done, found-join, found_first, found-second, found-lent, claimable-open}
 use Rattle.walks.proofs.Pieces.{Single, found-claimable, found-rest, found-cons, claim-done, claim-not}
 use Rattle.spans.specs.declared.Counted.{Counted}
-use Rattle.spans.specs.declared.Counted.TheVariants.{Broken as NoSpans, Whole as AllSpans}
 use Rattle.order.specs.declared.sort.Sort.{Sort}
 use Rattle.order.specs.Sorts.{rule_as}
-use Rattle.spans.specs.Spans.{entries_in, SpansOk, whole, SpansFound}
+use Rattle.spans.specs.Spans.{entries_in, SpansOk, SpansFound}
 use Rattle.towers.specs.Towers.{Spanned, HasSpans, TowersFound}
 use Rattle.towers.proofs.Heads.{spans-found}
-use Rattle.verify.specs.declared.table.Columned.{Columned}
-use Rattle.verify.specs.declared.table.Columned.TheVariants.{Broken, Whole}
-use Rattle.verify.specs.Tables.{Tally, columned, CountsAre, TableFound, ColumnsFound}
+use Rattle.verify.specs.declared.table.Tally.{Tally}
+use Rattle.verify.specs.Tables.{CountsAre, TableFound, ColumnsFound}
 
 -- ---- Spans and towers
 
@@ -36,8 +33,8 @@ module _ (sort : Sort) (img scr : List ℕ) (lent : Lent img scr) (root z : ℕ)
   abbrev Cols : Tally → List ℕ → Type 0
   Cols = ColumnsFound sort img scr root z
 
-  none : (s : List ℕ) → ((a : Tally) (t : List ℕ) → Cols a t → ⊥) → FindsAt columned Cols Broken s
-  none s n = finds-none columned Broken s (same_start Cols) (λ a e. let q : ◌≡◌ {A = ℕ} 0 1 = cc in omega arith) n
+  none : (s : List ℕ) → ((a : Tally) (t : List ℕ) → Cols a t → ⊥) → FindsAt Some Cols None s
+  none s n = finds-none (same_start Cols) n
 
   -- the spans of columns that are found
   spans-of : (a : Tally) (t : List ℕ) (c : Cols a t)
@@ -62,20 +59,17 @@ module _ (sort : Sort) (img scr : List ℕ) (lent : Lent img scr) (root z : ℕ)
         spans_are = c.spans_are ∙ sym (length-map (columns c.table) (λ (x : Column). x.span));
       }
 
-  module _ (n : ℕ) (is : n ≡ be32 (pg img root) 8) (r : Counted) (s : List ℕ) (f' : FindsAt whole (SpansFound sort img scr z n) r s) where
-    f : FindsAt whole (SpansFound sort img scr z (be32 (pg img root) 8)) r s
-    f = subst (λ (q : ℕ). FindsAt whole (SpansFound sort img scr z q) r s) is f'
+  module _ (n : ℕ) (is : n ≡ be32 (pg img root) 8) (r : Answer Counted) (s : List ℕ) (f' : FindsAt Some (SpansFound sort img scr z n) r s) where
+    f : FindsAt Some (SpansFound sort img scr z (be32 (pg img root) 8)) r s
+    f = subst (λ (q : ℕ). FindsAt Some (SpansFound sort img scr z q) r s) is f'
 
-    pub columns-no-spans : r ≡ NoSpans → FindsAt columned Cols Broken s
+    pub columns-no-spans : r ≡ None → FindsAt Some Cols None s
     columns-no-spans e =
-        none s (λ a t c.
-        let q : NoSpans ≡ AllSpans a.keys a.spans = sym e ∙ (f.complete _ _ (spans-of a t c)).0 in
-        let x : ◌≡◌ {A = ℕ} 0 1 = cc in
-        omega arith)
+        none s (λ a t c. none-some _ (sym e ∙ (f.complete _ _ (spans-of a t c)).0))
 
-    module _ (keys spans : ℕ) (e : r ≡ AllSpans keys spans) where
-      found : SpansFound sort img scr z (be32 (pg img root) 8) (record { keys = keys; spans = spans }) s
-      found = f.sound (record { keys = keys; spans = spans }) e
+    module _ (k : Counted) (e : r ≡ Some k) where
+      found : SpansFound sort img scr z (be32 (pg img root) 8) k s
+      found = f.sound k e
 
       -- what the walk over the towers asks
       pub spans-there : HasSpans img n × Lent img s
@@ -90,10 +84,10 @@ module _ (sort : Sort) (img scr : List ℕ) (lent : Lent img scr) (root z : ℕ)
             found-lent lent x.found,
           )
 
-      module _ (hd : ℕ) (on : hd ≡ be32 (pg img root) 12) (w : Walked) (t : List ℕ)
-          (g' : (z : ℕ) (x : Span) (others : List Span) → Spanned img n z x others → FindsAt Done (TowersFound img s hd x others) w t) where
-        g : (z : ℕ) (x : Span) (others : List Span) → Spanned img n z x others → FindsAt Done (TowersFound img s (be32 (pg img root) 12) x others) w t
-        g z x others h = subst (λ (q : ℕ). FindsAt Done (TowersFound img s q x others) w t) on (g' z x others h)
+      module _ (hd : ℕ) (on : hd ≡ be32 (pg img root) 12) (w : Answer ℕ) (t : List ℕ)
+          (g' : (z : ℕ) (x : Span) (others : List Span) → Spanned img n z x others → FindsAt Some (TowersFound img s hd x others) w t) where
+        g : (z : ℕ) (x : Span) (others : List Span) → Spanned img n z x others → FindsAt Some (TowersFound img s (be32 (pg img root) 12) x others) w t
+        g z x others h = subst (λ (q : ℕ). FindsAt Some (TowersFound img s q x others) w t) on (g' z x others h)
 
         -- the towers of columns that are found
         towers-of : (a : Tally) (u : List ℕ) (c : Cols a u) → (s ≡ claims scr (gather pages_of (map span (spans_in c.table))))
@@ -111,19 +105,19 @@ module _ (sort : Sort) (img scr : List ℕ) (lent : Lent img scr) (root z : ℕ)
               total = c.levels_are;
             }
 
-        towers-at : (a : Tally) (u : List ℕ) (c : Cols a u) → FindsAt Done (TowersFound img s (be32 (pg img root) 12) c.table.first (spans_of c.table.rest)) w t
+        towers-at : (a : Tally) (u : List ℕ) (c : Cols a u) → FindsAt Some (TowersFound img s (be32 (pg img root) 12) c.table.first (spans_of c.table.rest)) w t
         unfolding spans-of
         towers-at a u c =
             let x = spans-of a u c in
             g z c.table.first (spans_of c.table.rest)
             (spans-found img scr _ n z x.first x.others lent x.found (x.named ∙ sym is))
 
-        pub columns-no-towers : w ≡ Refused → FindsAt columned Cols Broken t
+        pub columns-no-towers : w ≡ None → FindsAt Some Cols None t
         columns-no-towers h =
-            none t (λ a u c. refused-never _ (sym h ∙ ((towers-at a u c).complete _ _ (towers-of a u c (f.complete _ _ (spans-of a u c)).1)).0))
+            none t (λ a u c. none-some _ (sym h ∙ ((towers-at a u c).complete _ _ (towers-of a u c (f.complete _ _ (spans-of a u c)).1)).0))
 
         -- both found are the columns
-        joined : (m : ℕ) → w ≡ Done m → Cols (record { keys = keys; spans = spans; levels = m }) t
+        joined : (m : ℕ) → w ≡ Some m → Cols (record { keys = k.keys; spans = k.spans; levels = m }) t
         joined m h =
             let x = found in
             let y : TowersFound img s (be32 (pg img root) 12) x.first x.others m t
@@ -150,31 +144,22 @@ module _ (sort : Sort) (img scr : List ℕ) (lent : Lent img scr) (root z : ℕ)
                   };
               found = found-join img scr (map span (link_spans z 0 (x.first ∷ spans_of y.rest))) (map tower (link_towers (record { span = x.first; tower = some y.top } ∷ y.rest))) s t
                   (subst (λ (ss : List Span). Found img scr (map span (link_spans z 0 (x.first ∷ ss))) s) (sym y.stands) x.found) y.found;
-              keys_are = subst (λ (ss : List Span). keys ≡ length (entries_in (x.first ∷ ss))) (sym y.stands) x.keys_are;
-              spans_are = subst (λ (ss : List Span). spans ≡ length (x.first ∷ ss)) (sym y.stands) x.spans_are ∙ ap suc (length-map y.rest (λ (c : Column). c.span));
+              keys_are = subst (λ (ss : List Span). k.keys ≡ length (entries_in (x.first ∷ ss))) (sym y.stands) x.keys_are;
+              spans_are = subst (λ (ss : List Span). k.spans ≡ length (x.first ∷ ss)) (sym y.stands) x.spans_are ∙ ap suc (length-map y.rest (λ (c : Column). c.span));
               levels_are = y.total;
             }
 
-        pub columns-done : (m : ℕ) → w ≡ Done m → FindsAt columned Cols (Whole keys spans m) t
+        pub columns-done : (m : ℕ) → w ≡ Some m → FindsAt Some Cols (Some (record { keys = k.keys; spans = k.spans; levels = m })) t
         columns-done m h =
-            finds-done columned (Whole keys spans m) t (same_start Cols) tally-same (record { keys = keys; spans = spans; levels = m }) refl (joined m h) only
+            finds-done (same_start Cols) (record { keys = k.keys; spans = k.spans; levels = m }) (joined m h) only
           where
-            tally-same : (a b : Tally) → columned a ≡ columned b → a ≡ b
-            tally-same a b q =
-                let k : a.keys ≡ b.keys = cc in
-                let l : a.spans ≡ b.spans = cc in
-                let n : a.levels ≡ b.levels = cc in
-                λ j. record { keys = k j; spans = l j; levels = n j }
-
-            only : (a : Tally) (u : List ℕ) → Cols a u → (record { keys = keys; spans = spans; levels = m } ≡ a) × (t ≡ u)
+            only : (a : Tally) (u : List ℕ) → Cols a u → (record { keys = k.keys; spans = k.spans; levels = m } ≡ a) × (t ≡ u)
             only a u c =
                 let d = f.complete _ _ (spans-of a u c) in
                 let v = (towers-at a u c).complete _ _ (towers-of a u c d.1) in
-                let q : AllSpans keys spans ≡ AllSpans a.keys a.spans = sym e ∙ d.0 in
-                let k : keys ≡ a.keys = cc in
-                let l : spans ≡ a.spans = cc in
-                let n : m ≡ a.levels = done-injective m a.levels (sym h ∙ v.0) in
-                ((λ j. record { keys = k j; spans = l j; levels = n j }), v.1)
+                let q : k ≡ record { keys = a.keys; spans = a.spans } = same_Some k _ (sym e ∙ d.0) in
+                let n : m ≡ a.levels = same_Some m a.levels (sym h ∙ v.0) in
+                ((λ j. record { keys = (q j).keys; spans = (q j).spans; levels = n j }), v.1)
 
 -- ---- The skip-list page
 
@@ -186,8 +171,8 @@ module _ (sort : Sort) (img scr : List ℕ) (root : ℕ) where
   abbrev Tab : ℕ → List ℕ → Type 0
   Tab = TableFound sort img scr root
 
-  no_table : (s : List ℕ) → ((m : ℕ) (t : List ℕ) → Tab m t → ⊥) → FindsAt Done Tab Refused s
-  no_table s n = finds-none Done Refused s (same_start Tab) refused-never n
+  no_table : (s : List ℕ) → ((m : ℕ) (t : List ℕ) → Tab m t → ⊥) → FindsAt Some Tab None s
+  no_table s n = finds-none (same_start Tab) n
 
   on-root : (m : ℕ) (t : List ℕ) (f : Tab m t) → IsSkipList (skip_list_of f.table) (pg img root)
   on-root m t f = subst (λ (n : ℕ). IsSkipList (skip_list_of f.table) (pg img n)) f.named f.found.bears.0
@@ -196,18 +181,18 @@ module _ (sort : Sort) (img scr : List ℕ) (root : ℕ) where
   root-single m t f = subst (λ (n : ℕ). Single img (skip_list (skip_list_of f.table)) n 1) f.named (skip-single img (skip_list_of f.table))
 
   module _ (b : Bool) (s : List ℕ) (c : Claimed img scr root 1 b s) where
-    pub table-no : b ≡ false → FindsAt Done Tab Refused s
+    pub table-no : b ≡ false → FindsAt Some Tab None s
     table-no e =
         no_table s (λ m t f. true≢false
         (sym (found-claimable img scr (skip_list (skip_list_of f.table)) root 1 (root-single m t f) (map span (spans_in f.table) ++ map tower (towers_in f.table)) t f.found)
         ∙ claim-not img scr root 1 b s c e))
 
     module _ (e : b ≡ true) where
-      pub table-size : (Within 2 128 (be16 (pg img root) 28) → ⊥) → FindsAt Done Tab Refused s
+      pub table-size : (Within 2 128 (be16 (pg img root) 28) → ⊥) → FindsAt Some Tab None s
       table-size n = no_table s (λ m t f. n (subst (Within 2 128) (sym (on-root m t f).span_size) f.ok.span_size))
 
-      module _ (z : ℕ) (is : z ≡ be16 (pg img root) 28) (r : Columned) (u : List ℕ)
-          (g : FindsAt columned (ColumnsFound sort img s root z) r u) where
+      module _ (z : ℕ) (is : z ≡ be16 (pg img root) 28) (r : Answer Tally) (u : List ℕ)
+          (g : FindsAt Some (ColumnsFound sort img s root z) r u) where
         -- the columns of a table that is found
         columns_of : (m : ℕ) (t : List ℕ) (f : Tab m t)
             → ColumnsFound sort img s root z
@@ -227,32 +212,26 @@ module _ (sort : Sort) (img scr : List ℕ) (root : ℕ) where
               levels_are = refl;
             }
 
-        pub table-broken : r ≡ Broken → FindsAt Done Tab Refused u
+        pub table-broken : r ≡ None → FindsAt Some Tab None u
         table-broken h =
-            no_table u (λ m t f.
-            let q : Broken ≡ columned _ = sym h ∙ (g.complete _ _ (columns_of m t f)).0 in
-            let x : ◌≡◌ {A = ℕ} 0 1 = cc in
-            omega arith)
+            no_table u (λ m t f. none-some _ (sym h ∙ (g.complete _ _ (columns_of m t f)).0))
 
-        module _ (keys spans levels : ℕ) (h : r ≡ Whole keys spans levels) where
-          abbrev tally : Tally
-          tally = record { keys = keys; spans = spans; levels = levels }
-
+        module _ (tally : Tally) (h : r ≡ Some tally) where
           -- a table that is found has these counts
-          same-tally : (m : ℕ) (t : List ℕ) (f : Tab m t) → (keys ≡ length (entries_of f.table)) × (spans ≡ length (columns f.table)) × (levels ≡ length (towers_of (columns f.table))) × (u ≡ t)
+          same-tally : (m : ℕ) (t : List ℕ) (f : Tab m t) → (tally.keys ≡ length (entries_of f.table)) × (tally.spans ≡ length (columns f.table)) × (tally.levels ≡ length (towers_of (columns f.table))) × (u ≡ t)
           same-tally m t f =
               let d = g.complete _ _ (columns_of m t f) in
-              let q : Whole keys spans levels ≡ Whole (length (entries_of f.table)) (length (columns f.table)) (length (towers_of (columns f.table))) = sym h ∙ d.0 in
-              (cc, cc, cc, d.1)
+              let q : tally ≡ _ = same_Some tally _ (sym h ∙ d.0) in
+              (ap (λ (a : Tally). a.keys) q, ap (λ (a : Tally). a.spans) q, ap (λ (a : Tally). a.levels) q, d.1)
 
-          pub table-miscounted : (CountsAre (pg img root) keys spans levels → ⊥) → FindsAt Done Tab Refused u
+          pub table-miscounted : (CountsAre (pg img root) tally → ⊥) → FindsAt Some Tab None u
           table-miscounted n =
               no_table u (λ m t f.
               let x = same-tally m t f in
               let k = on-root m t f in
               n (record { size_is = k.size ∙ sym x.0; spans_is = k.spans ∙ sym x.1; levels_is = k.levels ∙ sym x.2 }))
 
-          pub table_done : CountsAre (pg img root) keys spans levels → FindsAt Done Tab (Done keys) u
+          pub table_done : CountsAre (pg img root) tally → FindsAt Some Tab (Some tally.keys) u
           unfolding skip_mark
           table_done k =
               let d : (claimable img scr root 1 ≡ true) × (s ≡ claimed scr root) = claim-done img scr root 1 b s c e in
@@ -267,7 +246,7 @@ module _ (sort : Sort) (img scr : List ℕ) (root : ℕ) where
                 levels = k.levels_is ∙ y.levels_are;
                 span_size = sym is ∙ sym y.size;
               } in
-              finds-done Done (Done keys) u (same_start Tab) done-injective keys refl
+              finds-done (same_start Tab) tally.keys
               (record {
                 table = y.table;
                 named = y.named;
@@ -282,12 +261,12 @@ module _ (sort : Sort) (img scr : List ℕ) (root : ℕ) where
               (λ m t f. let x = same-tally m t f in (x.0 ∙ sym f.keys, x.3))
 
 -- the tests of the counts
-module _ (b : List ℕ) (keys spans levels : ℕ) where
-  pub size-not : (be32 b 16 ≡ keys → ⊥) → Decides (CountsAre b keys spans levels) false
+module _ (b : List ℕ) (a : Tally) where
+  pub size-not : (be32 b 16 ≡ a.keys → ⊥) → Decides (CountsAre b a) false
   size-not n = decides-false (λ c. n c.size_is)
 
-  pub spans-not : (be32 b 20 ≡ spans → ⊥) → Decides (CountsAre b keys spans levels) false
+  pub spans-not : (be32 b 20 ≡ a.spans → ⊥) → Decides (CountsAre b a) false
   spans-not n = decides-false (λ c. n c.spans_is)
 
-  pub levels-not : (be32 b 24 ≡ levels → ⊥) → Decides (CountsAre b keys spans levels) false
+  pub levels-not : (be32 b 24 ≡ a.levels → ⊥) → Decides (CountsAre b a) false
   levels-not n = decides-false (λ c. n c.levels_is)

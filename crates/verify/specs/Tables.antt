@@ -11,8 +11,7 @@ use Rattle.entries.specs.declared.place.Place.{Place}
 use Rattle.entries.specs.Places.{IsPage}
 use Rattle.entries.specs.Keys.{KeyAt}
 use Rattle.search.specs.Spans.{Borne, Along}
-use Rattle.verify.specs.declared.table.Columned.{Columned}
-use Rattle.verify.specs.declared.table.Columned.TheVariants.{Whole}
+use Rattle.verify.specs.declared.table.Tally.{Tally}
 
 -- the table on the skip-list page `root`, whose keys sort so, with m keys
 pub record TableFound (sort : Sort) (img scr : List ℕ) (root m : ℕ) (out : List ℕ) : Type 0 where
@@ -39,12 +38,6 @@ pub record TablesFound (img scr : List ℕ) (es : List Entry) (n m : ℕ) (out :
   pub found : Found img scr (gather (λ x. table_pieces x.value) tables) out
   pub keys : m ≡ n + keys_of tables
 
--- what the walk over a table's spans and towers counts
-pub record Tally : Type 0 where
-  pub keys : ℕ
-  pub spans : ℕ
-  pub levels : ℕ
-
 -- the spans and towers of the table on the skip-list page `root`, whose keys sort so and whose span size is z
 pub record ColumnsFound (sort : Sort) (img scr : List ℕ) (root z : ℕ) (a : Tally) (out : List ℕ) : Type 0 where
   pub table : Table
@@ -58,14 +51,11 @@ pub record ColumnsFound (sort : Sort) (img scr : List ℕ) (root z : ℕ) (a : T
   pub spans_are : a.spans ≡ length (columns table)
   pub levels_are : a.levels ≡ length (towers_of (columns table))
 
-abbrev pub columned : Tally → Columned
-columned a = Whole a.keys a.spans a.levels
-
 -- the skip-list page b has these counts
-pub record CountsAre (b : List ℕ) (keys spans levels : ℕ) : Type 0 where
-  pub size_is : be32 b 16 ≡ keys
-  pub spans_is : be32 b 20 ≡ spans
-  pub levels_is : be32 b 24 ≡ levels
+pub record CountsAre (b : List ℕ) (a : Tally) : Type 0 where
+  pub size_is : be32 b 16 ≡ a.keys
+  pub spans_is : be32 b 20 ≡ a.spans
+  pub levels_is : be32 b 24 ≡ a.levels
 
 -- a key may stand in the metaindex, with a value of v bytes: it is a name, and its table's page has four bytes
 abbrev pub is_name : (k : List ℕ) (v : ℕ) → Bool

@@ -3,13 +3,11 @@ ghost use Rattle.std.specs.Prelude.{◌+◌, ◌*◌, true};
 ghost use Rattle.pages.specs.Places.{Inside};
 ghost use Rattle.heads.specs.Claims.{Lent};
 ghost use Rattle.walks.specs.Found.{FindsAt};
-ghost use Rattle.walks.specs.declared.Walked.TheVariants.{Done};
 ghost use Rattle.verify.specs.Free.{ListedFound, BlockFound, FreeFound};
 
 use heads::claim::{claim, head32};
 use pages::mark::{BLOCK, FREE};
 use pages::read::get32;
-use walks::Walked;
 
 // Claims the pages that the block on `page` lists, `count` of them.
 fn claim_listed(image: &[u8], scratch: &mut [u8], page: usize, count: usize) -> bool
@@ -28,36 +26,34 @@ fn claim_listed(image: &[u8], scratch: &mut [u8], page: usize, count: usize) -> 
 }
 
 // Claims the block on `page` and the pages it lists; answers how many these are.
-fn claim_block(image: &[u8], scratch: &mut [u8], page: usize) -> Walked
+fn claim_block(image: &[u8], scratch: &mut [u8], page: usize) -> Option<usize>
     requires { Lent image.now scratch.old }
-    ensures { FindsAt Done (BlockFound image.now scratch.old page) result scratch.new }
+    ensures { FindsAt Some (BlockFound image.now scratch.old page) result scratch.new }
 {
     if !claim(scratch, page, BLOCK) {
-        return Walked::Refused;
+        return None;
     }
     let count = head32(scratch, page, 12);
     if 252 < count {
-        return Walked::Refused;
+        return None;
     }
     if claim_listed(image, scratch, page, count) {
-        return Walked::Done(1 + count);
+        return Some(1 + count);
     }
-    Walked::Refused
+    None
 }
 
 // Claims the blocks from the one on `start` on, with the pages they list; answers F, how many these are.
-pub fn verify_free(image: &[u8], scratch: &mut [u8], start: usize) -> Walked
+pub fn verify_free(image: &[u8], scratch: &mut [u8], start: usize) -> Option<usize>
     requires { Lent image.now scratch.old }
-    ensures { FindsAt Done (FreeFound image.now scratch.old start 0) result scratch.new }
+    ensures { FindsAt Some (FreeFound image.now scratch.old start 0) result scratch.new }
 {
     let mut page = start;
     let mut free = 0;
     while page != 0 {
-        let Walked::Done(n) = claim_block(image, scratch, page) else {
-            return Walked::Refused;
-        };
+        let n = claim_block(image, scratch, page)?;
         free += n;
         page = head32(scratch, page, 8);
     }
-    Walked::Done(free)
+    Some(free)
 }

@@ -5,50 +5,34 @@ ghost use Rattle.verify.specs.Image.{Judged};
 
 use crate::free::verify_free;
 use crate::names::verify_tables;
-use crate::superblock::{Started, is_kept, verify_superblock};
+use crate::superblock::{is_kept, verify_superblock};
 use crate::table::verify_table;
 use blockfile::Counts;
 use heads::claim::{all_claimed, copy_heads};
 use order::sort::Sort;
 use search::table::{METAINDEX, TableRef};
-use walks::Walked;
 
-// Not well-formed, or well-formed with what check counts.
-#[derive(Clone, Copy)]
-pub enum Verdict {
-    Bad,
-    Good(Counts),
-}
-
-// Whether the image is well-formed. The scratch has the heads of its pages, none of them claimed.
-fn judge(image: &[u8], scratch: &mut [u8]) -> Verdict
+// What check counts, if the image is well-formed. The scratch has the heads of its pages, none of them claimed.
+fn judge(image: &[u8], scratch: &mut [u8]) -> Option<Counts>
     requires { Headed image.now scratch.old × (4096 ≤ length image.now) }
     ensures { Judged image.now result }
 {
-    let Started::Begun(first) = verify_superblock(image, scratch) else {
-        return Verdict::Bad;
-    };
+    let first = verify_superblock(image, scratch)?;
     let meta = TableRef {
         root: METAINDEX,
         sort: Sort::Bytes,
     };
-    let Walked::Done(tables) = verify_table(image, scratch, meta) else {
-        return Verdict::Bad;
-    };
-    let Walked::Done(keys) = verify_tables(image, scratch) else {
-        return Verdict::Bad;
-    };
-    let Walked::Done(free) = verify_free(image, scratch, first) else {
-        return Verdict::Bad;
-    };
+    let tables = verify_table(image, scratch, meta)?;
+    let keys = verify_tables(image, scratch)?;
+    let free = verify_free(image, scratch, first)?;
     if !all_claimed(scratch) {
-        return Verdict::Bad;
+        return None;
     }
     if !is_kept(image, free) {
-        return Verdict::Bad;
+        return None;
     }
     let pages = image.len() / 1024;
-    Verdict::Good(Counts {
+    Some(Counts {
         pages,
         tables,
         keys,
@@ -56,8 +40,8 @@ fn judge(image: &[u8], scratch: &mut [u8]) -> Verdict
     })
 }
 
-// Whether the image is well-formed. The scratch has room for the heads of its pages.
-pub fn verify(image: &[u8], scratch: &mut [u8]) -> Verdict
+// What check counts, if the image is well-formed. The scratch has room for the heads of its pages.
+pub fn verify(image: &[u8], scratch: &mut [u8]) -> Option<Counts>
     requires { Room image.now scratch.old × (4096 ≤ length image.now) }
     ensures { Judged image.now result }
 {

@@ -3,7 +3,6 @@ ghost use Rattle.std.specs.Prelude.{List, ◌+◌, ◌*◌, ◌≤◌};
 ghost use Rattle.blockfile.specs.Layout.{Entry, Table, entries_of};
 ghost use Rattle.heads.specs.Claims.{Lent};
 ghost use Rattle.walks.specs.Found.{unclaimed, FindsAt};
-ghost use Rattle.walks.specs.declared.Walked.TheVariants.{Done};
 ghost use Rattle.entries.specs.Keys.{Key};
 ghost use Rattle.verify.specs.Tables.{NameAt, NamesOn, MetaOn, TablesFound};
 
@@ -15,7 +14,6 @@ use entries::sorted::sort_at;
 use pages::read::{get16, get32};
 use reader::place_after;
 use search::table::{METAINDEX, TableRef};
-use walks::Walked;
 
 // Whether a key of the metaindex is a name with a four-byte value.
 fn is_named(image: &[u8], at: Place, key: usize, value: usize) -> bool
@@ -34,9 +32,9 @@ fn is_named(image: &[u8], at: Place, key: usize, value: usize) -> bool
 // Claims and reads the tables that the entries of the metaindex's span on `page` name. With `before` keys in the tables
 // before them, answers how many keys there are. A name is tested when its table is come to, so that names that share a table
 // are not read beyond the second.
-fn verify_named(image: &[u8], scratch: &mut [u8], page: usize, before: usize) -> Walked
+fn verify_named(image: &[u8], scratch: &mut [u8], page: usize, before: usize) -> Option<usize>
     requires { Lent image.now scratch.old × ((es : List Entry) × NamesOn image.now page es) × (before + 128 * unclaimed scratch.old ≤ 524288) }
-    ensures { (es : List Entry) → NamesOn image.now page es → FindsAt Done (TablesFound image.now scratch.old es before) result scratch.new }
+    ensures { (es : List Entry) → NamesOn image.now page es → FindsAt Some (TablesFound image.now scratch.old es before) result scratch.new }
 {
     let mut at = Place { page, offset: 20 };
     let mut left = get16(image, page, 18);
@@ -45,36 +43,32 @@ fn verify_named(image: &[u8], scratch: &mut [u8], page: usize, before: usize) ->
         let g = lengths(image, at);
         let first = g.after;
         if !is_named(image, first, g.key, g.value) {
-            return Walked::Refused;
+            return None;
         }
         let value = place_after(image, first, g.key);
         let root = number(image, value);
         let sort = sort_at(image, first, g.key);
-        let Walked::Done(n) = verify_table(image, scratch, TableRef { root, sort }) else {
-            return Walked::Refused;
-        };
+        let n = verify_table(image, scratch, TableRef { root, sort })?;
         keys += n;
         at = place_after(image, first, g.key + g.value);
         left -= 1;
     }
-    Walked::Done(keys)
+    Some(keys)
 }
 
 // Claims and reads the tables that the metaindex names; answers how many keys they have.
-pub fn verify_tables(image: &[u8], scratch: &mut [u8]) -> Walked
+pub fn verify_tables(image: &[u8], scratch: &mut [u8]) -> Option<usize>
     requires { Lent image.now scratch.old × ((meta : Table) × MetaOn image.now meta) }
-    ensures { (meta : Table) → MetaOn image.now meta → FindsAt Done (TablesFound image.now scratch.old (entries_of meta) 0) result scratch.new }
+    ensures { (meta : Table) → MetaOn image.now meta → FindsAt Some (TablesFound image.now scratch.old (entries_of meta) 0) result scratch.new }
 {
     let mut page = get32(image, METAINDEX, 8);
     let mut left = get32(image, METAINDEX, 20);
     let mut keys = 0;
     while left != 0 {
-        let Walked::Done(n) = verify_named(image, scratch, page, keys) else {
-            return Walked::Refused;
-        };
+        let n = verify_named(image, scratch, page, keys)?;
         keys = n;
         page = get32(image, page, 12);
         left -= 1;
     }
-    Walked::Done(keys)
+    Some(keys)
 }

@@ -6,19 +6,11 @@ ghost use Rattle.blockfile.specs.WellFormed.{KeptCount};
 ghost use Rattle.pages.specs.Places.{Inside};
 ghost use Rattle.heads.specs.Claims.{Lent};
 ghost use Rattle.walks.specs.Found.{Decides, FindsAt};
-ghost use Rattle.verify.specs.declared.superblock.Started.TheVariants.{Begun};
 ghost use Rattle.verify.specs.Superblock.{Fixed, SuperFound};
 
 use heads::claim::claim;
 use pages::mark::SUPERBLOCK;
 use pages::read::{get16, get32};
-
-// Refused, or the first free-list page, 0 for none.
-#[derive(Clone, Copy)]
-pub enum Started {
-    Refused,
-    Begun(usize),
-}
 
 // Whether the version is 1.2, the file length that of the pages, and the page size 1024.
 fn is_fixed(image: &[u8], pages: usize) -> bool
@@ -40,29 +32,29 @@ fn is_fixed(image: &[u8], pages: usize) -> bool
     true
 }
 
-// Claims page 1 and reads the superblock.
-pub fn verify_superblock(image: &[u8], scratch: &mut [u8]) -> Started
+// Claims page 1 and reads the superblock; answers the first free-list page, 0 for none.
+pub fn verify_superblock(image: &[u8], scratch: &mut [u8]) -> Option<usize>
     requires { Lent image.now scratch.old }
-    ensures { FindsAt Begun (SuperFound image.now scratch.old) result scratch.new }
+    ensures { FindsAt Some (SuperFound image.now scratch.old) result scratch.new }
 {
     if !claim(scratch, 1, SUPERBLOCK) {
-        return Started::Refused;
+        return None;
     }
     if !is_fixed(image, image.len() / 1024) {
-        return Started::Refused;
+        return None;
     }
     let mounted = get16(image, 1, 20);
     if 1 < mounted {
-        return Started::Refused;
+        return None;
     }
     let size = get16(image, 1, 22);
     if size < 2 {
-        return Started::Refused;
+        return None;
     }
     if 128 < size {
-        return Started::Refused;
+        return None;
     }
-    Started::Begun(get32(image, 1, 16))
+    Some(get32(image, 1, 16))
 }
 
 // Whether the superblock's count of free pages is that of `free` pages, or not kept.

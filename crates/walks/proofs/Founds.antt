@@ -19,7 +19,8 @@ use Rattle.blockfile.proofs.Owned.{owned_by, owned-append}
 use Rattle.pages.specs.Begins.{begins}
 use Rattle.heads.specs.Claims.{Lent, claimable, claimed}
 use Rattle.heads.proofs.Claims.{lent-claimed}
-use Rattle.walks.specs.declared.Walked.TheVariants.{Refused, Done}
+use Rattle.std.specs.Prelude.{Some, None}
+use Rattle.std.proofs.lemmas.Option.{none-some, same_Some}
 use Rattle.walks.specs.Found.{Open, Fresh, claims, unclaimed_to, unclaimed, Found, Decides, FindsAt}
 
 -- ---- Claims
@@ -167,26 +168,19 @@ module _ {A : Type 0} where
   pub same_turn : {E F G : A → List ℕ → Type 0} → SameAt E F → SameAt F G → SameAt E G
   same_turn p q = record { to = λ a s x. q.to a s (p.to a s x); back = λ a s x. p.back a s (q.back a s x) }
 
-module _ {A R : Type 0} (done : A → R) {F G : A → List ℕ → Type 0} (r : R) (s : List ℕ) (c : SameAt F G) where
-  pub finds-same : FindsAt done F r s → FindsAt done G r s
-  finds-same f = record { sound = λ a e. c.to a s (f.sound a e); complete = λ a t g. f.complete a t (c.back a t g) }
+pub finds-same : {A R : Type 0} {done : A → R} {F G : A → List ℕ → Type 0} {r : R} {s : List ℕ} → SameAt F G → FindsAt done F r s → FindsAt done G r s
+finds-same {s = s} c f = record { sound = λ a e. c.to a s (f.sound a e); complete = λ a t g. f.complete a t (c.back a t g) }
 
-  -- the walk is refused: the answer is no `done`, and nothing is to be found from here
-  pub finds-none : ((a : A) → r ≡ done a → ⊥) → ((a : A) (t : List ℕ) → F a t → ⊥) → FindsAt done G r s
-  finds-none never n = record { sound = λ a e. absurd (never a e); complete = λ a t g. absurd (n a t (c.back a t g)) }
+-- of an answer that is an option
+module _ {A : Type 0} {F G : A → List ℕ → Type 0} {s : List ℕ} (c : SameAt F G) where
+  -- the walk is refused: nothing is to be found from here
+  pub finds-none : ((a : A) (t : List ℕ) → F a t → ⊥) → FindsAt Some G None s
+  finds-none n = record { sound = λ a e. absurd (none-some a e); complete = λ a t g. absurd (n a t (c.back a t g)) }
 
   -- the walk is done: a is found from here, and nothing else
-  pub finds-done : (inj : (a b : A) → done a ≡ done b → a ≡ b) (a : A) → r ≡ done a → F a s → ((b : A) (t : List ℕ) → F b t → (a ≡ b) × (s ≡ t)) → FindsAt done G r s
-  finds-done inj a e f only =
+  pub finds-done : (a : A) → F a s → ((b : A) (t : List ℕ) → F b t → (a ≡ b) × (s ≡ t)) → FindsAt Some G (Some a) s
+  finds-done a f only =
       record {
-        sound = λ b q. c.to b s (subst (λ (x : A). F x s) (inj a b (sym e ∙ q)) f);
-        complete = λ b t g. let o : (a ≡ b) × (s ≡ t) = only b t (c.back b t g) in (e ∙ ap done o.0, o.1);
+        sound = λ b q. c.to b s (subst (λ (x : A). F x s) (same_Some a b q) f);
+        complete = λ b t g. let o : (a ≡ b) × (s ≡ t) = only b t (c.back b t g) in (ap Some o.0, o.1);
       }
-
--- ---- The answer `Walked`
-
-pub done-injective : (a b : ℕ) → Done a ≡ Done b → a ≡ b
-done-injective a b e = cc
-
-pub refused-never : (a : ℕ) → Refused ≡ Done a → ⊥
-refused-never a e = let z : ◌≡◌ {A = ℕ} 0 1 = cc in omega arith

@@ -38,7 +38,7 @@ pub record Decides (A : Type 0) (r : Bool) : Type 0 where
   pub sound : r ≡ true → A
   pub complete : A → r ≡ true
 
--- the answer r is `done a` with the scratch s exactly where F a s holds
+-- the answer r is `done a`, mostly `Some a`, with the scratch s exactly where F a s holds
 pub record FindsAt {A R : Type 0} (done : A → R) (F : A → List ℕ → Type 0) (r : R) (s : List ℕ) : Type 0 where
   pub sound : (a : A) → r ≡ done a → F a s
   pub complete : (a : A) (t : List ℕ) → F a t → (r ≡ done a) × (s ≡ t)

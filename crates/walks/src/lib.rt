@@ -1,9 +1,3 @@
-// Walks over the pages of an image, each page claimed once.
+// Walks over the pages of an image, each page claimed once: what they find, and what follows. It stands in specs/ and proofs/; there is
+// no code.
 #![tactic(auto)]
-
-// The answer of a walk: refused, or done with the number of things found.
-#[derive(Clone, Copy)]
-pub enum Walked {
-    Refused,
-    Done(usize),
-}

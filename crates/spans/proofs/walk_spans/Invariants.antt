@@ -5,8 +5,8 @@ use Rattle.walks.specs.Found.{unclaimed}
 use Rattle.spans.proofs.Tables.{Counting}
 use Rattle.spans.proofs.walk_spans.Given as goal
 
-abbrev pub invariant-loop-n : goal.invariant-loop-n
-invariant-loop-n l = Counting l.rules.sort l.image l.rules.most l.initial.scratch l.start l.scratch l.page l.previous l.last l.keys l.spans × (length l.chart ≡ length l.initial.chart)
+abbrev pub invariant-loop-span : goal.invariant-loop-span
+invariant-loop-span l = Counting l.rules.sort l.image l.rules.most l.initial.scratch l.start l.scratch l.page l.previous l.last l.keys l.spans × (length l.chart ≡ length l.initial.chart)
 
-abbrev pub decreases-loop-n : goal.decreases-loop-n
-decreases-loop-n l = unclaimed l.scratch
+abbrev pub decreases-loop-span : goal.decreases-loop-span
+decreases-loop-span l = unclaimed l.scratch

@@ -22,46 +22,46 @@ loop-page-init c =
 pub place_tower-requires : goal.place_tower-requires
 place_tower-requires c = let inv = c.loop-page.invariant in (omega arith, omega arith, record { image = _; lent = inv.lent; linked = inv.linked })
 
-pub returns-in_default : goal.returns-in_default
-returns-in_default c =
+pub returns-in_err-height : goal.returns-in_err-height
+returns-in_err-height c =
     let inv = c.loop-page.invariant in
-    climbing-no _ _ _ _ _ _ _ _ _ _ inv c.loop-page-test.true _ _ (c.place_tower.ensures _ inv.lent inv.linked) c.in_default.is
+    rw c.from_residual.ensures (climbing-no _ _ _ _ _ _ _ _ _ _ inv c.loop-page-test.true _ _ (c.place_tower.ensures _ inv.lent inv.linked) c.in_err-height.was)
 
 pub follow-requires-in-loop-page : goal.follow-requires-in-loop-page
 follow-requires-in-loop-page c =
     let inv = c.loop-page.invariant in
-    let t = climbing-turn _ _ _ _ _ _ _ _ _ _ inv c.loop-page-test.true _ _ (c.place_tower.ensures _ inv.lent inv.linked) _ c.in-Done.is in
+    let t = climbing-turn _ _ _ _ _ _ _ _ _ _ inv c.loop-page-test.true _ _ (c.place_tower.ensures _ inv.lent inv.linked) _ c.in_ok-height.was in
     (record { small = omega arith; low = t.low; high = t.high; fits = omega arith }, omega arith)
 
 pub head32-span-requires : goal.head32-span-requires
 head32-span-requires c =
     let inv = c.loop-page.invariant in
-    let t = climbing-turn _ _ _ _ _ _ _ _ _ _ inv c.loop-page-test.true _ _ (c.place_tower.ensures _ inv.lent inv.linked) _ c.in-Done.is in
+    let t = climbing-turn _ _ _ _ _ _ _ _ _ _ inv c.loop-page-test.true _ _ (c.place_tower.ensures _ inv.lent inv.linked) _ c.in_ok-height.was in
     turn-in-head t (omega arith)
 
 pub head32-next-requires : goal.head32-next-requires
 head32-next-requires c =
     let inv = c.loop-page.invariant in
-    let t = climbing-turn _ _ _ _ _ _ _ _ _ _ inv c.loop-page-test.true _ _ (c.place_tower.ensures _ inv.lent inv.linked) _ c.in-Done.is in
+    let t = climbing-turn _ _ _ _ _ _ _ _ _ _ inv c.loop-page-test.true _ _ (c.place_tower.ensures _ inv.lent inv.linked) _ c.in_ok-height.was in
     rw (turn-span t c.head32-span.ensures) (in_head t.lent t.span_low t.span_high (omega arith))
 
 pub overflow_add-count : goal.overflow_add-count
 overflow_add-count c =
     let inv = c.loop-page.invariant in
-    let t = climbing-turn _ _ _ _ _ _ _ _ _ _ inv c.loop-page-test.true _ _ (c.place_tower.ensures _ inv.lent inv.linked) _ c.in-Done.is in
+    let t = climbing-turn _ _ _ _ _ _ _ _ _ _ inv c.loop-page-test.true _ _ (c.place_tower.ensures _ inv.lent inv.linked) _ c.in_ok-height.was in
     omega (arith, t.falls, unclaimed-most c.args.scratch.now, c.requires.0.room.whole, c.requires.0.room.most)
 
 pub head32-page-requires : goal.head32-page-requires
 head32-page-requires c =
     let inv = c.loop-page.invariant in
-    let t = climbing-turn _ _ _ _ _ _ _ _ _ _ inv c.loop-page-test.true _ _ (c.place_tower.ensures _ inv.lent inv.linked) _ c.in-Done.is in
+    let t = climbing-turn _ _ _ _ _ _ _ _ _ _ inv c.loop-page-test.true _ _ (c.place_tower.ensures _ inv.lent inv.linked) _ c.in_ok-height.was in
     turn-in-head t (omega arith)
 
 pub loop-page-preserved : goal.loop-page-preserved
 loop-page-preserved c =
     let inv = c.loop-page.invariant in
-    let t = climbing-turn _ _ _ _ _ _ _ _ _ _ inv c.loop-page-test.true _ _ (c.place_tower.ensures _ inv.lent inv.linked) _ c.in-Done.is in
-    climbing-next _ _ _ _ _ _ _ _ _ _ inv c.loop-page-test.true _ _ (c.place_tower.ensures _ inv.lent inv.linked) _ c.in-Done.is
+    let t = climbing-turn _ _ _ _ _ _ _ _ _ _ inv c.loop-page-test.true _ _ (c.place_tower.ensures _ inv.lent inv.linked) _ c.in_ok-height.was in
+    climbing-next _ _ _ _ _ _ _ _ _ _ inv c.loop-page-test.true _ _ (c.place_tower.ensures _ inv.lent inv.linked) _ c.in_ok-height.was
     _ c.follow-in-loop-page.ensures _ _ (turn-span t c.head32-span.ensures) c.head32-next.ensures.is
     _ (head32-read t.lent (turn-in-head t (omega arith)) (omega arith) c.head32-page.ensures).is
 
@@ -80,8 +80,8 @@ get32-page-requires c = in-levels _ c.follow.ensures.long
 pub slice_bounds-place_tower-end : goal.slice_bounds-place_tower-end
 slice_bounds-place_tower-end c = sym c.loop-page.invariant.wide
 
-pub shape_of-scratch-in_default : goal.shape_of-scratch-in_default
-shape_of-scratch-in_default c = c.place_tower.auto.scratch ∙ c.loop-page.invariant.long
+pub shape_of-scratch-in_err-height : goal.shape_of-scratch-in_err-height
+shape_of-scratch-in_err-height c = c.place_tower.auto.scratch ∙ c.loop-page.invariant.long
 
 pub slice_bounds-follow-end-in-loop-page : goal.slice_bounds-follow-end-in-loop-page
 slice_bounds-follow-end-in-loop-page c = sym c.loop-page.invariant.wide
@@ -89,7 +89,7 @@ slice_bounds-follow-end-in-loop-page c = sym c.loop-page.invariant.wide
 pub loop-page-smaller : goal.loop-page-smaller
 loop-page-smaller c =
     let inv = c.loop-page.invariant in
-    let t = climbing-turn _ _ _ _ _ _ _ _ _ _ inv c.loop-page-test.true _ _ (c.place_tower.ensures _ inv.lent inv.linked) _ c.in-Done.is in
+    let t = climbing-turn _ _ _ _ _ _ _ _ _ _ inv c.loop-page-test.true _ _ (c.place_tower.ensures _ inv.lent inv.linked) _ c.in_ok-height.was in
     omega (arith, t.falls)
 
 pub slice_bounds-all_are-end : goal.slice_bounds-all_are-end

@@ -5,28 +5,28 @@ use Rattle.towers.proofs.Climbs.{found-open, found-lent, found-in-head, found-sp
 use Rattle.towers.proofs.Heads.{first-in-head, first_next, others-linked, head-no, head-off, towers-climb}
 use Rattle.towers.proofs.verify_towers.Goals as goal
 
-pub returns-in_default : goal.returns-in_default
-returns-in_default c z s others sp = head-no _ _ _ _ z s others sp _ _ (c.claim_tower.ensures _ c.requires.0) c.in_default.is
+pub returns-in_err-top : goal.returns-in_err-top
+returns-in_err-top c z s others sp = rw c.from_residual.ensures (head-no _ _ _ _ z s others sp _ _ (c.claim_tower.ensures _ c.requires.0) c.in_err-top.was)
 
 pub head32-requires : goal.head32-requires
 head32-requires c =
-    let f = (c.claim_tower.ensures _ c.requires.0).sound _ c.in-Done.is in
+    let f = (c.claim_tower.ensures _ c.requires.0).sound _ c.in_ok-top.was in
     found-in-head f c.requires.0 (omega arith)
 
 pub returns-then-head32-first : goal.returns-then-head32-first
 returns-then-head32-first c z s others sp =
     let k = c.claim_tower.ensures _ c.requires.0 in
-    let f = k.sound _ c.in-Done.is in
-    head-off _ _ _ _ z s others sp _ _ k _ c.in-Done.is _ (found-span f c.requires.0 c.head32.ensures) c.if-head32-first.true
+    let f = k.sound _ c.in_ok-top.was in
+    head-off _ _ _ _ z s others sp _ _ k _ c.in_ok-top.was _ (found-span f c.requires.0 c.head32.ensures) c.if-head32-first.true
 
 pub head32-start-requires : goal.head32-start-requires
 head32-start-requires c =
-    let f = (c.claim_tower.ensures _ c.requires.0).sound _ c.in-Done.is in
+    let f = (c.claim_tower.ensures _ c.requires.0).sound _ c.in_ok-top.was in
     first-in-head _ _ _ _ _ c.requires.1.spanned (found-lent _ _ _ _ _ _ _ f c.requires.0)
 
 pub claim_others-requires : goal.claim_others-requires
 claim_others-requires c =
-    let f = (c.claim_tower.ensures _ c.requires.0).sound _ c.in-Done.is in
+    let f = (c.claim_tower.ensures _ c.requires.0).sound _ c.in_ok-top.was in
     let o = found-open _ _ _ _ _ _ _ f in
     let p = c.requires in
     let room = p.0.room in (
@@ -38,8 +38,8 @@ claim_others-requires c =
 pub returns : goal.returns
 returns c z s ss sp =
     let k = c.claim_tower.ensures _ c.requires.0 in
-    let f = k.sound _ c.in-Done.is in
-    towers-climb _ _ _ _ z s ss sp _ _ k _ c.in-Done.is
+    let f = k.sound _ c.in_ok-top.was in
+    towers-climb _ _ _ _ z s ss sp _ _ k _ c.in_ok-top.was
     _ (found-span f c.requires.0 c.head32.ensures) c.if-head32-first.false _ (c.head32-start.ensures.is ∙ first_next _ _ z s ss sp (found-lent _ _ _ _ _ _ _ f c.requires.0)) _ _ c.claim_others.ensures
 
 pub claim_tower-requires : goal.claim_tower-requires

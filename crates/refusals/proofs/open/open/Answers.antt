@@ -27,4 +27,4 @@ returns-in_default c =
 pub returns : goal.returns
 returns c =
     let f : Fits c.args.image.now c.args.scratch.now = record { sized = sym c.is_length.ensures ∙ c.if-not-is_length.false; enough = c.if-scratch-image.false } in
-    good _ _ f _ c.verify.ensures _ c.in-Good.is _ (kept _ _ f c.verify.new.scratch (c.verify.auto.scratch ∙ part-long _ _ f)).0 (kept _ _ f c.verify.new.scratch (c.verify.auto.scratch ∙ part-long _ _ f)).1
+    good _ _ f _ c.verify.ensures _ c.in-Some.is _ (kept _ _ f c.verify.new.scratch (c.verify.auto.scratch ∙ part-long _ _ f)).0 (kept _ _ f c.verify.new.scratch (c.verify.auto.scratch ∙ part-long _ _ f)).1

@@ -13,11 +13,11 @@ get16-length-requires c =
     let t = skims-there w (λ e. omega (arith, c.if-count-eq0.false, e)) in
     record { small = r.small; low = r.page.low; high = r.page.high; fits = omega (arith, t.1, t.2) }
 
-pub overflow_sub-result-2 : goal.overflow_sub-result-2
-overflow_sub-result-2 c = skims-left c.requires.1
+pub overflow_sub-to-2 : goal.overflow_sub-to-2
+overflow_sub-to-2 c = skims-left c.requires.1
 
-pub overflow_add-result : goal.overflow_add-result
-overflow_add-result c = let w = c.requires.1 in let t = skims-there w (λ e. omega (arith, c.if-count-eq0.false, e)) in omega (arith, t.1, t.2)
+pub overflow_add-key : goal.overflow_add-key
+overflow_add-key c = let w = c.requires.1 in let t = skims-there w (λ e. omega (arith, c.if-count-eq0.false, e)) in omega (arith, t.1, t.2)
 
 pub returns : goal.returns
 returns c sort w = skims-some w (omega arith) c.get16-length.ensures.is

@@ -9,7 +9,7 @@ pub try_entry-requires : goal.try_entry-requires
 try_entry-requires c = (skimming-enough c.loop-i.invariant.0, c.lengths_of-allowed.ensures)
 
 pub loop-i-preserved : goal.loop-i-preserved
-loop-i-preserved c = (skimming-more c.loop-i.invariant.0 c.try_entry.ensures c.in-On.is, omega arith)
+loop-i-preserved c = (skimming-more c.loop-i.invariant.0 c.try_entry.ensures c.in-Some.is, omega arith)
 
 pub conclude-requires : goal.conclude-requires
 conclude-requires c = (c.args.sort, c.loop-i.invariant.0)

@@ -21,19 +21,19 @@ verify_entry-requires c =
     let v = c.loop-i.invariant in
     (c.requires.0, walking-ready (walking-more v.0 c.skim-s.ensures.read refl refl), spread-entered v.2 (walking-ready v.0).key c.skim-s.ensures.read)
 
-pub returns-in_default : goal.returns-in_default
-returns-in_default c =
+pub returns-in_err-after : goal.returns-in_err-after
+returns-in_err-after c =
     let v = c.loop-i.invariant in
-    walking-no (walking-more v.0 c.skim-s.ensures.read refl refl) c.verify_entry.ensures c.in_default.is (omega (arith, c.if-size-i.false, v.1))
+    rw c.from_residual.ensures (walking-no (walking-more v.0 c.skim-s.ensures.read refl refl) c.verify_entry.ensures c.in_err-after.was (omega (arith, c.if-size-i.false, v.1)))
 
 pub loop-i-preserved : goal.loop-i-preserved
 loop-i-preserved c =
     let v = c.loop-i.invariant in
     let w = walking-more v.0 c.skim-s.ensures.read refl refl in (
-      walking-more w c.verify_entry.ensures c.in-Read.is (omega arith),
+      walking-more w c.verify_entry.ensures c.in_ok-after.was (omega arith),
       omega (arith, c.if-size-i.false, v.1),
       spread-entered (spread-entered v.2 (walking-ready v.0).key c.skim-s.ensures.read) (walking-ready w).key
-          (subst (Entering _ _ _ _ 1) c.in-Read.is c.verify_entry.ensures),
+          (subst (Entering _ _ _ _ 1) c.in_ok-after.was c.verify_entry.ensures),
       c.run_after-run.ensures,
     )
 

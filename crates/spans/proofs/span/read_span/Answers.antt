@@ -25,21 +25,21 @@ returns-then-most-size c = read-over c.requires.1 _ _ (let p = c.requires in hea
 pub verify_entries-requires : goal.verify_entries-requires
 verify_entries-requires c = let p = c.requires in (p.0, span-ready p.1, span-spread p.1 p.2)
 
-pub returns-in_default : goal.returns-in_default
-returns-in_default c = read-bad c.requires.1 _ _ (let p = c.requires in head16-read p.0 (span-in-head p.1 p.0 (omega arith)) (omega arith) c.head16-size.ensures) c.verify_entries.ensures c.in_default.is
+pub returns-in_err-end : goal.returns-in_err-end
+returns-in_err-end c = rw c.from_residual.ensures (read-bad c.requires.1 _ _ (let p = c.requires in head16-read p.0 (span-in-head p.1 p.0 (omega arith)) (omega arith) c.head16-size.ensures) c.verify_entries.ensures c.in_err-end.was)
 
-pub returns-then-left-ge1016 : goal.returns-then-left-ge1016
-returns-then-left-ge1016 c = read-spare c.requires.1 _ _ (let p = c.requires in head16-read p.0 (span-in-head p.1 p.0 (omega arith)) (omega arith) c.head16-size.ensures) c.verify_entries.ensures c.in-Read.is c.if-left-ge1016.true
+pub returns-then-end-ge1016 : goal.returns-then-end-ge1016
+returns-then-end-ge1016 c = read-spare c.requires.1 _ _ (let p = c.requires in head16-read p.0 (span-in-head p.1 p.0 (omega arith)) (omega arith) c.head16-size.ensures) c.verify_entries.ensures c.in_ok-end.was c.if-end-ge1016.true
 
-pub head32-next-requires : goal.head32-next-requires
-head32-next-requires c =
+pub head32-requires-2 : goal.head32-requires-2
+head32-requires-2 c =
     let p = c.requires in
     span-in-head p.1 p.0 (omega arith)
 
 pub returns : goal.returns
 returns c =
     let p = c.requires in
-    read_done p.1 _ _ (let p = c.requires in head16-read p.0 (span-in-head p.1 p.0 (omega arith)) (omega arith) c.head16-size.ensures) c.verify_entries.ensures c.in-Read.is c.if-left-ge1016.false c.if-most-size.false
+    read_done p.1 _ _ (let p = c.requires in head16-read p.0 (span-in-head p.1 p.0 (omega arith)) (omega arith) c.head16-size.ensures) c.verify_entries.ensures c.in_ok-end.was c.if-end-ge1016.false c.if-most-size.false
     (let p = c.requires in head16-read p.0 (span-in-head p.1 p.0 (omega arith)) (omega arith) c.head16.ensures) c.if-head16-most.false
     (let p = c.requires in head32-read p.0 (span-in-head p.1 p.0 (omega arith)) (omega arith) c.head32.ensures) c.if-head32-previous.false
-    (head32-read p.0 (span-in-head p.1 p.0 (omega arith)) (omega arith) c.head32-next.ensures)
+    (head32-read p.0 (span-in-head p.1 p.0 (omega arith)) (omega arith) c.head32-2.ensures)

@@ -5,19 +5,19 @@ use Rattle.walks.proofs.Founds.{found-lent, unclaimed-most}
 use Rattle.verify.proofs.Frees.{freeing-start, freeing-end, freeing-no, freeing-next, block-turn}
 use Rattle.verify.proofs.free.verify_free.Goals as goal
 
-pub returns-in_default : goal.returns-in_default
-returns-in_default c = freeing-no _ _ _ _ _ _ c.loop-page.invariant c.loop-page-test.true _ _ c.claim_block.ensures c.in_default.is
+pub returns-in_err-n : goal.returns-in_err-n
+returns-in_err-n c = rw c.from_residual.ensures (freeing-no _ _ _ _ _ _ c.loop-page.invariant c.loop-page-test.true _ _ c.claim_block.ensures c.in_err-n.was)
 
 pub head32-page-requires : goal.head32-page-requires
-head32-page-requires c = (let t = (block-turn _ _ _ _ _ (c.claim_block.ensures.sound _ c.in-Done.is)) in
-    let room = (found-lent c.loop-page.invariant.lent (c.claim_block.ensures.sound _ c.in-Done.is).found).room in
+head32-page-requires c = (let t = (block-turn _ _ _ _ _ (c.claim_block.ensures.sound _ c.in_ok-n.was)) in
+    let room = (found-lent c.loop-page.invariant.lent (c.claim_block.ensures.sound _ c.in_ok-n.was).found).room in
     record { small = omega (arith, room.whole, room.most); low = t.0.low; high = omega (arith, t.0.high, t.3); fits = omega arith })
 
 pub loop-page-preserved : goal.loop-page-preserved
 loop-page-preserved c =
     freeing-next _ _ _ _ _ _ c.loop-page.invariant c.loop-page-test.true _ _ c.claim_block.ensures _ _
-    c.in-Done.is ((head32-read (found-lent c.loop-page.invariant.lent (c.claim_block.ensures.sound _ c.in-Done.is).found) (let t = (block-turn _ _ _ _ _ (c.claim_block.ensures.sound _ c.in-Done.is)) in
-    let room = (found-lent c.loop-page.invariant.lent (c.claim_block.ensures.sound _ c.in-Done.is).found).room in
+    c.in_ok-n.was ((head32-read (found-lent c.loop-page.invariant.lent (c.claim_block.ensures.sound _ c.in_ok-n.was).found) (let t = (block-turn _ _ _ _ _ (c.claim_block.ensures.sound _ c.in_ok-n.was)) in
+    let room = (found-lent c.loop-page.invariant.lent (c.claim_block.ensures.sound _ c.in_ok-n.was).found).room in
     record { small = omega (arith, room.whole, room.most); low = t.0.low; high = omega (arith, t.0.high, t.3); fits = omega arith }) (omega arith) c.head32-page.ensures).is)
 
 pub loop-page-init : goal.loop-page-init
@@ -26,14 +26,14 @@ loop-page-init c = freeing-start _ _ _ c.requires
 pub claim_block-requires : goal.claim_block-requires
 claim_block-requires c = c.loop-page.invariant.lent
 
-pub shape_of-scratch-in_default : goal.shape_of-scratch-in_default
-shape_of-scratch-in_default c = c.claim_block.auto.scratch ∙ c.loop-page.invariant.long
+pub shape_of-scratch-in_err-n : goal.shape_of-scratch-in_err-n
+shape_of-scratch-in_err-n c = c.claim_block.auto.scratch ∙ c.loop-page.invariant.long
 
 pub overflow_add-free : goal.overflow_add-free
-overflow_add-free c = omega (arith, (block-turn _ _ _ _ _ (c.claim_block.ensures.sound _ c.in-Done.is)), unclaimed-most c.args.scratch.now)
+overflow_add-free c = omega (arith, (block-turn _ _ _ _ _ (c.claim_block.ensures.sound _ c.in_ok-n.was)), unclaimed-most c.args.scratch.now)
 
 pub loop-page-smaller : goal.loop-page-smaller
-loop-page-smaller c = omega (arith, (block-turn _ _ _ _ _ (c.claim_block.ensures.sound _ c.in-Done.is)))
+loop-page-smaller c = omega (arith, (block-turn _ _ _ _ _ (c.claim_block.ensures.sound _ c.in_ok-n.was)))
 
 pub returns : goal.returns
 returns c = freeing-end _ _ _ _ _ _ c.loop-page.invariant c.loop-page-test.false

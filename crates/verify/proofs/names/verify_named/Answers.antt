@@ -38,16 +38,16 @@ sort_at-sort-requires c = naming-name (c.loop-left.invariant c.requires.1.0 c.re
 pub verify_table-requires : goal.verify_table-requires
 verify_table-requires c = (c.loop-left.invariant c.requires.1.0 c.requires.1.1).lent
 
-pub shape_of-scratch-in_default : goal.shape_of-scratch-in_default
-shape_of-scratch-in_default c = c.verify_table.auto.scratch ∙ (c.loop-left.invariant c.requires.1.0 c.requires.1.1).long
+pub shape_of-scratch-in_err-n : goal.shape_of-scratch-in_err-n
+shape_of-scratch-in_err-n c = c.verify_table.auto.scratch ∙ (c.loop-left.invariant c.requires.1.0 c.requires.1.1).long
 
-pub returns-in_default : goal.returns-in_default
-returns-in_default c es h =
-    naming-no (c.loop-left.invariant es h) c.loop-left-test.true _ c.lengths-g.ensures _ c.is_named.ensures c.if-not-is_named.false _ c.place_after-value.ensures (λ i. let b = c.type_inv.image i in omega arith)
-    _ c.number-root.ensures _ c.sort_at-sort.ensures _ _ c.verify_table.ensures c.in_default.is
+pub returns-in_err-n : goal.returns-in_err-n
+returns-in_err-n c es h =
+    rw c.from_residual.ensures (naming-no (c.loop-left.invariant es h) c.loop-left-test.true _ c.lengths-g.ensures _ c.is_named.ensures c.if-not-is_named.false _ c.place_after-value.ensures (λ i. let b = c.type_inv.image i in omega arith)
+    _ c.number-root.ensures _ c.sort_at-sort.ensures _ _ c.verify_table.ensures c.in_err-n.was)
 
 pub overflow_add-keys : goal.overflow_add-keys
-overflow_add-keys c = omega (arith, table-fewer _ _ _ _ _ (c.verify_table.ensures.sound _ c.in-Done.is), (c.loop-left.invariant c.requires.1.0 c.requires.1.1).few, c.requires.2)
+overflow_add-keys c = omega (arith, table-fewer _ _ _ _ _ (c.verify_table.ensures.sound _ c.in_ok-n.was), (c.loop-left.invariant c.requires.1.0 c.requires.1.1).few, c.requires.2)
 
 pub overflow_add-g : goal.overflow_add-g
 overflow_add-g c =
@@ -66,7 +66,7 @@ loop-left-smaller c = let t = c.loop-left-test.true in omega arith
 pub loop-left-preserved : goal.loop-left-preserved
 loop-left-preserved c es h =
     naming-next (c.loop-left.invariant es h) c.loop-left-test.true _ c.lengths-g.ensures _ c.is_named.ensures c.if-not-is_named.false _ c.place_after-value.ensures (λ i. let b = c.type_inv.image i in omega arith)
-    _ c.number-root.ensures _ c.sort_at-sort.ensures _ _ c.verify_table.ensures _ c.in-Done.is _ c.place_after-at.ensures
+    _ c.number-root.ensures _ c.sort_at-sort.ensures _ _ c.verify_table.ensures _ c.in_ok-n.was _ c.place_after-at.ensures
 
 pub shape_of-scratch : goal.shape_of-scratch
 shape_of-scratch c = (c.loop-left.invariant _ c.requires.1.1).long

@@ -28,11 +28,11 @@ verify_named-requires c =
       omega (arith, t.few, room.whole, room.most, unclaimed-most c.args.scratch.now),
     )
 
-pub shape_of-scratch-in_default : goal.shape_of-scratch-in_default
-shape_of-scratch-in_default c = c.verify_named.auto.scratch ∙ (c.loop-left.invariant c.requires.1.0 c.requires.1.1).long
+pub shape_of-scratch-in_err-n : goal.shape_of-scratch-in_err-n
+shape_of-scratch-in_err-n c = c.verify_named.auto.scratch ∙ (c.loop-left.invariant c.requires.1.0 c.requires.1.1).long
 
-pub returns-in_default : goal.returns-in_default
-returns-in_default c meta h = tabling-no (c.loop-left.invariant meta h) c.loop-left-test.true _ _ c.verify_named.ensures c.in_default.is
+pub returns-in_err-n : goal.returns-in_err-n
+returns-in_err-n c meta h = rw c.from_residual.ensures (tabling-no (c.loop-left.invariant meta h) c.loop-left-test.true _ _ c.verify_named.ensures c.in_err-n.was)
 
 pub get32-page-requires-in-loop-left : goal.get32-page-requires-in-loop-left
 get32-page-requires-in-loop-left c =
@@ -47,7 +47,7 @@ loop-left-smaller c = let t = c.loop-left-test.true in omega arith
 
 pub loop-left-preserved : goal.loop-left-preserved
 loop-left-preserved c meta h =
-    tabling-next (c.loop-left.invariant meta h) c.loop-left-test.true _ _ c.verify_named.ensures _ c.in-Done.is c.verify_named.auto.scratch _
+    tabling-next (c.loop-left.invariant meta h) c.loop-left-test.true _ _ c.verify_named.ensures _ c.in_ok-n.was c.verify_named.auto.scratch _
     c.get32-page-in-loop-left.ensures.is
 
 pub shape_of-scratch : goal.shape_of-scratch

@@ -21,18 +21,18 @@ returns-then-most-gt128 c = table-size _ _ _ _ _ _ (c.claim.ensures _ c.requires
 pub verify_columns-requires : goal.verify_columns-requires
 verify_columns-requires c = (claim-lent (c.claim.ensures _ c.requires) c.if-not-claim.false c.requires, (claim-inside (c.claim.ensures _ c.requires) c.if-not-claim.false c.requires (omega arith)), omega arith)
 
-pub returns-in_default : goal.returns-in_default
-returns-in_default c = table-broken _ _ _ _ _ _ (c.claim.ensures _ c.requires) c.if-not-claim.false _ c.get16-most.ensures.is _ _ c.verify_columns.ensures c.in_default.is
+pub returns-in_err-tally : goal.returns-in_err-tally
+returns-in_err-tally c = rw c.from_residual.ensures (table-broken _ _ _ _ _ _ (c.claim.ensures _ c.requires) c.if-not-claim.false _ c.get16-most.ensures.is _ _ c.verify_columns.ensures c.in_err-tally.was)
 
 pub are_counts-requires : goal.are_counts-requires
 are_counts-requires c = (claim-inside (c.claim.ensures _ c.requires) c.if-not-claim.false c.requires (omega arith))
 
-pub returns-then-are_counts : goal.returns-then-are_counts
-returns-then-are_counts c =
-    table_done _ _ _ _ _ _ (c.claim.ensures _ c.requires) c.if-not-claim.false _ c.get16-most.ensures.is _ _ c.verify_columns.ensures _ _ _ c.in-Whole.is
-    (c.are_counts.ensures.sound c.if-are_counts.true)
-
 pub returns : goal.returns
 returns c =
-    table-miscounted _ _ _ _ _ _ (c.claim.ensures _ c.requires) c.if-not-claim.false _ c.get16-most.ensures.is _ _ c.verify_columns.ensures _ _ _ c.in-Whole.is
-    (λ x. true≢false (sym (c.are_counts.ensures.complete x) ∙ c.if-are_counts.false))
+    table_done _ _ _ _ _ _ (c.claim.ensures _ c.requires) c.if-not-claim.false _ c.get16-most.ensures.is _ _ c.verify_columns.ensures _ c.in_ok-tally.was
+    (c.are_counts.ensures.sound c.if-not-are_counts.false)
+
+pub returns-then-not-are_counts : goal.returns-then-not-are_counts
+returns-then-not-are_counts c =
+    table-miscounted _ _ _ _ _ _ (c.claim.ensures _ c.requires) c.if-not-claim.false _ c.get16-most.ensures.is _ _ c.verify_columns.ensures _ c.in_ok-tally.was
+    (λ x. true≢false (sym (c.are_counts.ensures.complete x) ∙ c.if-not-are_counts.true))
