@@ -1,7 +1,7 @@
 -- Keys at places: a key is one list, and on one page it is a part of the image; the bytes of a name are read one by one.
 use Rattle.std.proofs.Common.{◌≡◌, ℕ, zero, suc, ◌+◌, ◌-◌, ◌<◌, ◌≤◌, Bool, true, false, List, [], ◌∷◌, length, take, drop, sym, refl, ap, ◌∙◌, ap₂, arith, length-drop, length-take-le, drop-cons, take-take, take-add, drop_at}
 use Rattle.blockfile.specs.Order.{all_within}
-use Rattle.order.specs.declared.bytes.Order.{Order}
+use Rattle.std.specs.declared.cmp.Ordering.{Ordering}
 use Rattle.order.specs.Bytes.{order, ByWords}
 use Rattle.entries.specs.declared.place.Place.{Place}
 use Rattle.entries.specs.declared.place.Got.{Got}
@@ -89,13 +89,13 @@ module _ {img : List ℕ} {a : Place} {m : ℕ} (h : 0 < m) (f : a.offset + m �
     are : (k : List ℕ) → KeyAt img a m k → x ≡ k
     are k p = e ∙ sym (key-part p h f)
 
-    pub compared-to-bytes : {l : List ℕ} {r : Order} → ByWords x l r → ComparedTo img a m l r
+    pub compared-to-bytes : {l : List ℕ} {r : Ordering} → ByWords x l r → ComparedTo img a m l r
     compared-to-bytes {l} w = record { is = λ k p. w.bytes ∙ ap (λ (i : List ℕ). order i l) (are k p) }
 
     pub printed-bytes : {r : Bool} → r ≡ all_within 0x21 0x7e x → Printed img a m r
     printed-bytes is = record { is = λ k p. is ∙ ap (all_within 0x21 0x7e) (are k p) }
 
-  pub compared-here : {b : Place} {n : ℕ} → 0 < n → b.offset + n ≤ 1024 → {r : Order} → ByWords (here img a m) (here img b n) r → Compared img a m b n r
+  pub compared-here : {b : Place} {n : ℕ} → 0 < n → b.offset + n ≤ 1024 → {r : Ordering} → ByWords (here img a m) (here img b n) r → Compared img a m b n r
   compared-here g d w = record { is = λ k l p q. w.bytes ∙ sym (ap₂ order (key-part p h f) (key-part q g d)) }
 
 -- ---- the bytes of a name: i of them are left from x on

@@ -3,8 +3,8 @@
 use Rattle.std.proofs.Common.{◌≡◌, ℕ, ◌+◌, ◌-◌, ◌≤◌, List, length, take, drop, sym, refl, ap, ◌∙◌, ap₂, arith, length-drop, drop-drop}
 use native.Mathlib.Decide.{dec_lt}
 use mathlib.Core.Logic.{by_cases}
-use Rattle.order.specs.declared.bytes.Order.{Order}
-use Rattle.order.specs.declared.bytes.Order.TheVariants.{Less, Equal, Greater}
+use Rattle.std.specs.declared.cmp.Ordering.{Ordering}
+use Rattle.std.specs.declared.cmp.Ordering.TheVariants.{Less, Equal, Greater}
 use Rattle.order.specs.Bytes.{order, Least, ByWords}
 use Rattle.order.proofs.Orders.{order-none, order-shorter, order-longer, order-part, order-behind}
 use Rattle.entries.specs.declared.place.Place.{Place}
@@ -17,12 +17,12 @@ pub record Long (F : List ℕ → Type 0) (n : ℕ) : Type 0 where
   pub is : (k : List ℕ) → F k → length k ≡ n
 
 -- the order of all lists with these properties is r
-pub record Ordered (F G : List ℕ → Type 0) (r : Order) : Type 0 where
+pub record Ordered (F G : List ℕ → Type 0) (r : Ordering) : Type 0 where
   pub is : (k l : List ℕ) → F k → G l → r ≡ order k l
 
 -- whatever the order of what is left, F and G, it is the order of the keys, A and B
 pub record Walking (A B F G : List ℕ → Type 0) : Type 0 where
-  pub same : (r : Order) → Ordered F G r → Ordered A B r
+  pub same : (r : Ordering) → Ordered F G r → Ordered A B r
 
 pub walking_start : (A B : List ℕ → Type 0) → Walking A B A B
 walking_start A B = record { same = λ r o. o }
@@ -44,11 +44,11 @@ module _ {A B F G : List ℕ → Type 0} (w : Walking A B F G) where
     pub walked-longer : (m ≡ 0 → ⊥) → n ≡ 0 → Ordered A B Greater
     walked-longer d e = w.same Greater (record { is = λ k l p q. sym (order-longer k l (omega (arith, f.is k p, d)) (g.is l q ∙ e)) })
 
-  module _ {F' G' : List ℕ → Type 0} {x y : List ℕ} {n : ℕ} (p : Part F F' x n) (q : Part G G' y n) {o : Order} (is : ByWords x y o) where
+  module _ {F' G' : List ℕ → Type 0} {x y : List ℕ} {n : ℕ} (p : Part F F' x n) (q : Part G G' y n) {o : Ordering} (is : ByWords x y o) where
     parts : (k l : List ℕ) → F k → G l → o ≡ order (take n k) (take n l)
     parts k l e f = is.bytes ∙ ap₂ order (p.is k e) (q.is l f)
 
-    pub walked-part : {r : Order} → o ≡ r → (r ≡ Equal → ⊥) → Ordered A B r
+    pub walked-part : {r : Ordering} → o ≡ r → (r ≡ Equal → ⊥) → Ordered A B r
     walked-part {r} e z =
         w.same r (record {
           is = λ k l f g. let h : r ≡ order (take n k) (take n l) = sym e ∙ parts k l f g in h ∙ sym (order-part n k l (p.long k f) (q.long l g) (λ c. z (h ∙ c)));
@@ -82,7 +82,7 @@ module _ {img : List ℕ} {x u : Place} {i : ℕ} (z : i ≡ 0 → ⊥) (s : Set
         behind = λ k p. key-behind (key-settled p z s) n few fits;
       }
 
-pub compared : {img : List ℕ} {a : Place} {m : ℕ} {b : Place} {n : ℕ} {r : Order} → Ordered (KeyAt img a m) (KeyAt img b n) r → Compared img a m b n r
+pub compared : {img : List ℕ} {a : Place} {m : ℕ} {b : Place} {n : ℕ} {r : Ordering} → Ordered (KeyAt img a m) (KeyAt img b n) r → Compared img a m b n r
 compared o = record { is = o.is }
 
 -- ---- a slice
@@ -103,7 +103,7 @@ from-part s j n h =
       behind = λ k p. ap (drop n) p ∙ drop-drop n j s;
     }
 
-pub compared-to : {img : List ℕ} {a : Place} {m : ℕ} {l : List ℕ} {r : Order} → Ordered (KeyAt img a m) (From l 0) r → ComparedTo img a m l r
+pub compared-to : {img : List ℕ} {a : Place} {m : ℕ} {l : List ℕ} {r : Ordering} → Ordered (KeyAt img a m) (From l 0) r → ComparedTo img a m l r
 compared-to {l = l} o = record { is = λ k p. o.is k l p refl }
 
 -- ---- how many bytes lie together

@@ -1,7 +1,7 @@
 -- The ways through the comparison of keys as those of their table sort.
 use Rattle.std.proofs.Common.{◌≡◌, ℕ, zero, suc, ◌<◌, ◌≤◌, cond, eqb, ltb, List, [], ◌∷◌, length, get_or, take, sym, refl, ap, ◌∙◌, arith}
-use Rattle.order.specs.declared.bytes.Order.{Order}
-use Rattle.order.specs.declared.bytes.Order.TheVariants.{Less, Greater}
+use Rattle.std.specs.declared.cmp.Ordering.{Ordering}
+use Rattle.std.specs.declared.cmp.Ordering.TheVariants.{Less, Greater}
 use Rattle.order.specs.declared.sort.Sort.{Sort}
 use Rattle.order.specs.declared.sort.Sort.TheVariants.{Bytes, Numbers}
 use Rattle.order.specs.Sorts.{sign_as}
@@ -50,5 +50,5 @@ module _ {s : Sort} {img : List ℕ} {a : Place} {m x y : ℕ} {l : List ℕ} (c
   pub compared-greater : y < x → ComparedAs s img a m l Greater
   compared-greater h = record { is = λ k w. sym (sign-greater s k l (omega (arith, c.is k w, t))) }
 
-  pub compared-rest : y ≤ x → x ≤ y → {o : Order} → ComparedTo img a m l o → ComparedAs s img a m l o
+  pub compared-rest : y ≤ x → x ≤ y → {o : Ordering} → ComparedTo img a m l o → ComparedAs s img a m l o
   compared-rest h g d = record { is = λ k w. d.is k w ∙ sym (sign_same s k l (omega (arith, c.is k w, t))) }

@@ -2,7 +2,7 @@
 use Rattle.std.specs.Prelude.{◌≡◌, ℕ, ◌+◌, ◌<◌, ◌≤◌, Bool, true, List, length, take}
 use Rattle.blockfile.specs.Order.{all_within}
 use Rattle.pages.specs.Begins.{lead}
-use Rattle.order.specs.declared.bytes.Order.{Order}
+use Rattle.std.specs.declared.cmp.Ordering.{Ordering}
 use Rattle.order.specs.Bytes.{order}
 use Rattle.entries.specs.declared.place.Place.{Place}
 use Rattle.entries.specs.Places.{Rest}
@@ -19,10 +19,10 @@ pub record Key (img : List ℕ) (at : Place) (n : ℕ) : Type 0 where
   pub key : List ℕ
   pub there : KeyAt img at n key
 
-pub record Compared (img : List ℕ) (a : Place) (m : ℕ) (b : Place) (n : ℕ) (r : Order) : Type 0 where
+pub record Compared (img : List ℕ) (a : Place) (m : ℕ) (b : Place) (n : ℕ) (r : Ordering) : Type 0 where
   pub is : (k l : List ℕ) → KeyAt img a m k → KeyAt img b n l → r ≡ order k l
 
-pub record ComparedTo (img : List ℕ) (a : Place) (m : ℕ) (l : List ℕ) (r : Order) : Type 0 where
+pub record ComparedTo (img : List ℕ) (a : Place) (m : ℕ) (l : List ℕ) (r : Ordering) : Type 0 where
   pub is : (k : List ℕ) → KeyAt img a m k → r ≡ order k l
 
 pub record Printed (img : List ℕ) (at : Place) (n : ℕ) (r : Bool) : Type 0 where

@@ -1,6 +1,6 @@
 -- Keys on the pages of a span, as those of their table sort.
 use Rattle.std.specs.Prelude.{◌≡◌, ℕ, ◌≤◌, List}
-use Rattle.order.specs.declared.bytes.Order.{Order}
+use Rattle.std.specs.declared.cmp.Ordering.{Ordering}
 use Rattle.order.specs.declared.sort.Sort.{Sort}
 use Rattle.order.specs.Sorts.{table_sort, order_as, sign_as, rank}
 use Rattle.entries.specs.declared.place.Place.{Place}
@@ -14,7 +14,7 @@ pub record SortAt (img : List ℕ) (at : Place) (n : ℕ) (r : Sort) : Type 0 wh
 pub record SignAt (s : Sort) (img : List ℕ) (at : Place) (n r : ℕ) : Type 0 where
   pub is : (k : List ℕ) → KeyAt img at n k → r ≡ sign_as s k
 
-pub record ComparedAs (s : Sort) (img : List ℕ) (a : Place) (m : ℕ) (l : List ℕ) (r : Order) : Type 0 where
+pub record ComparedAs (s : Sort) (img : List ℕ) (a : Place) (m : ℕ) (l : List ℕ) (r : Ordering) : Type 0 where
   pub is : (k : List ℕ) → KeyAt img a m k → r ≡ order_as s k l
 
 -- p is the rank of the key

@@ -7,7 +7,8 @@ ghost use Rattle.entries.specs.Places.{Here, here};
 ghost use Rattle.entries.specs.Keys.{Key, Compared, ComparedTo, Printed, Together, Near, OnPage};
 
 use crate::place::{Place, bytes_at, settle, step};
-use order::bytes::{Order, compare_bytes, least};
+use order::bytes::compare_bytes;
+use std::cmp::Ordering;
 
 // Whether all bytes are of 21 to 7e hex.
 pub fn printable_bytes(x: &[u8]) -> bool
@@ -39,7 +40,7 @@ fn on_page(at: Place, n: usize) -> bool
 }
 
 // The order of two keys, each on one page.
-fn compare_here(image: &[u8], a: Place, m: usize, b: Place, n: usize) -> Order
+fn compare_here(image: &[u8], a: Place, m: usize, b: Place, n: usize) -> Ordering
     requires { Here image.now a m × Here image.now b n }
     ensures { ByWords (here image.now a m) (here image.now b n) result }
 {
@@ -51,13 +52,11 @@ fn together(a: usize, m: usize, b: usize, n: usize) -> usize
     requires { (1 ≤ m) × (1 ≤ n) × (a < 1024) × (b < 1024) }
     ensures { Together a m b n result }
 {
-    let here = least(m, 1024 - a);
-    let there = least(n, 1024 - b);
-    least(here, there)
+    m.min(1024 - a).min(n.min(1024 - b))
 }
 
 // The order of two keys over page breaks, part by part, each on one page in both.
-fn compare_across(image: &[u8], a: Place, m: usize, b: Place, n: usize) -> Order
+fn compare_across(image: &[u8], a: Place, m: usize, b: Place, n: usize) -> Ordering
     requires { Key image.now a m × Key image.now b n }
     ensures { Compared image.now a m b n result }
 {
@@ -67,20 +66,20 @@ fn compare_across(image: &[u8], a: Place, m: usize, b: Place, n: usize) -> Order
     let mut j = n;
     while i != 0 {
         if j == 0 {
-            return Order::Greater;
+            return Ordering::Greater;
         }
         let u = settle(image, x, 1);
         let v = settle(image, y, 1);
         let w = together(u.offset, i, v.offset, j);
         let order = compare_here(image, u, w, v, w);
         match order {
-            Order::Less => {
-                return Order::Less;
+            Ordering::Less => {
+                return Ordering::Less;
             }
-            Order::Greater => {
-                return Order::Greater;
+            Ordering::Greater => {
+                return Ordering::Greater;
             }
-            Order::Equal => {}
+            Ordering::Equal => {}
         }
         x = Place {
             page: u.page,
@@ -93,11 +92,15 @@ fn compare_across(image: &[u8], a: Place, m: usize, b: Place, n: usize) -> Order
         i -= w;
         j -= w;
     }
-    if j == 0 { Order::Equal } else { Order::Less }
+    if j == 0 {
+        Ordering::Equal
+    } else {
+        Ordering::Less
+    }
 }
 
 // The order of the key of m bytes at a and the key of n bytes at b.
-pub fn compare_keys(image: &[u8], a: Place, m: usize, b: Place, n: usize) -> Order
+pub fn compare_keys(image: &[u8], a: Place, m: usize, b: Place, n: usize) -> Ordering
     requires { Key image.now a m × Key image.now b n }
     ensures { Compared image.now a m b n result }
 {
@@ -110,7 +113,7 @@ pub fn compare_keys(image: &[u8], a: Place, m: usize, b: Place, n: usize) -> Ord
 }
 
 // The order of a key over page breaks and the given key, part by part.
-fn compare_slice_across(image: &[u8], a: Place, m: usize, key: &[u8]) -> Order
+fn compare_slice_across(image: &[u8], a: Place, m: usize, key: &[u8]) -> Ordering
     requires { Key image.now a m }
     ensures { ComparedTo image.now a m key.now result }
 {
@@ -119,13 +122,13 @@ fn compare_slice_across(image: &[u8], a: Place, m: usize, key: &[u8]) -> Order
     let mut j = 0;
     while i != 0 {
         if key.len() <= j {
-            return Order::Greater;
+            return Ordering::Greater;
         }
         let u = settle(image, x, 1);
         let w = together(u.offset, i, 0, key.len() - j);
         let end = j + w;
         let order = compare_bytes(bytes_at(image, u, w), &key[j..end]);
-        let Order::Equal = order else {
+        let Ordering::Equal = order else {
             return order;
         };
         x = Place {
@@ -136,14 +139,14 @@ fn compare_slice_across(image: &[u8], a: Place, m: usize, key: &[u8]) -> Order
         j = end;
     }
     if j < key.len() {
-        Order::Less
+        Ordering::Less
     } else {
-        Order::Equal
+        Ordering::Equal
     }
 }
 
 // The order of the key of m bytes at a and the given key.
-pub fn compare_slice(image: &[u8], a: Place, m: usize, key: &[u8]) -> Order
+pub fn compare_slice(image: &[u8], a: Place, m: usize, key: &[u8]) -> Ordering
     requires { Key image.now a m }
     ensures { ComparedTo image.now a m key.now result }
 {

@@ -5,8 +5,8 @@ ghost use Rattle.entries.specs.Sorted.{SortAt, SignAt, ComparedAs};
 
 use crate::key::compare_slice;
 use crate::place::{Place, step};
-use order::bytes::Order;
 use order::sort::{Sort, sign_by, sign_in, sort_by};
+use std::cmp::Ordering;
 
 // How the keys of the table sort whose name is the key here.
 pub fn sort_at(image: &[u8], at: Place, n: usize) -> Sort
@@ -35,17 +35,17 @@ fn sign_at(image: &[u8], at: Place, n: usize, sort: Sort) -> usize
 }
 
 // The order of the key of m bytes at a and the given key, as the keys of their table sort.
-pub fn compare_as(image: &[u8], a: Place, m: usize, sort: Sort, key: &[u8]) -> Order
+pub fn compare_as(image: &[u8], a: Place, m: usize, sort: Sort, key: &[u8]) -> Ordering
     requires { Key image.now a m }
     ensures { ComparedAs sort image.now a m key.now result }
 {
     let x = sign_at(image, a, m, sort);
     let y = sign_in(sort, key);
     if x < y {
-        return Order::Less;
+        return Ordering::Less;
     }
     if y < x {
-        return Order::Greater;
+        return Ordering::Greater;
     }
     compare_slice(image, a, m, key)
 }

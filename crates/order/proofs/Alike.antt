@@ -1,7 +1,8 @@
 -- Two byte strings that begin alike.
-use Prim.Native.Nat.{ℕ, zero, suc, ◌+◌, ◌≤◌, ◌<◌}
+use Prim.Native.Nat.{ℕ, zero, suc, ◌+◌, ◌≤◌, ◌<◌, min}
 use native.Mathlib.Omega.{arith}
 use native.Mathlib.Decide.{dec_lt}
+use Rattle.std.proofs.Math.Nat.{min-eq_left, min-eq_right}
 use native.Mathlib.Numerals.{add-one}
 use mathlib.Core.Path.{◌≡◌, refl, ap₂, sym, ◌∙◌}
 use mathlib.Core.Logic.{by_cases}
@@ -12,8 +13,8 @@ use lib.Bits.{bit_or, bit_xor, and_le_l, and_le_r, or_add_and, xor_add_and}
 use Rattle.blockfile.specs.Bytes.{be64, Every}
 use Rattle.pages.specs.Begins.{lead}
 use Rattle.pages.proofs.Words.{Byte, bytes-all, bytes_drop, be64-lead}
-use Rattle.order.specs.declared.bytes.Order.{Order}
-use Rattle.order.specs.declared.bytes.Order.TheVariants.{Less, Equal, Greater}
+use Rattle.std.specs.declared.cmp.Ordering.{Ordering}
+use Rattle.std.specs.declared.cmp.Ordering.TheVariants.{Less, Equal, Greater}
 use Rattle.order.specs.Bytes.{order, Least, SameFrom, Alike, ByWords}
 use Rattle.order.proofs.Orders.{order-less, order-greater, order-on, order-none, order-shorter, order-longer, word-order, lead-order, lead-above, lead-behind}
 
@@ -44,6 +45,12 @@ same_turn {x} {y} {i} {n} {d} s h e =
     same_more (s z.0) h (xor_same (get_or x n 0) (get_or y n 0) z.1)
 
 -- ---- two strings whose first i bytes are the same
+
+-- what std tells of the smaller of two numbers
+pub least-min : {m n r : ℕ} → r ≡ min m n → Least m n r
+least-min {m} {n} e = by_cases (dec_lt m n)
+    (λ h. let f : m ≤ n = omega arith in record { first = omega (arith, e, min-eq_left f); second = omega (arith, e, min-eq_left f); whole = λ g. omega (arith, e, min-eq_left f); other = λ g. omega (arith, e, min-eq_left f) })
+    (λ h. let f : n ≤ m = omega arith in record { first = omega (arith, e, min-eq_right f); second = omega (arith, e, min-eq_right f); whole = λ g. omega (arith, e, min-eq_right f); other = λ g. omega (arith, e, min-eq_right f) })
 
 alike-none : {x y : List ℕ} {n : ℕ} → Least (length x) (length y) n → Alike x y n 0
 alike-none h = record { least = h; few = omega arith; rest = refl }
@@ -86,7 +93,7 @@ alike-start l (suc i) h s = rw (← add-one i) (alike-more (alike-start l i (ome
 -- ---- words, and the answer
 
 module _ {x y : List ℕ} (left : (i : ℕ) → get_or x i 0 < 256) (right : (i : ℕ) → get_or y i 0 < 256) where
-  pub by-words : {r : Order} → r ≡ order x y → ByWords x y r
+  pub by-words : {r : Ordering} → r ≡ order x y → ByWords x y r
   by-words e = record { words = e ∙ sym (word-order x y (bytes-all x left) (bytes-all y right)); bytes = e }
 
   module _ {n i a b : ℕ} (v : Alike x y n i) (p : a ≡ be64 x i) (q : b ≡ be64 y i) where

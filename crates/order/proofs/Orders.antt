@@ -14,7 +14,7 @@ use Rattle.blockfile.specs.Order.{bytes_below, same}
 use Rattle.blockfile.proofs.Bools.{so, holds}
 use Rattle.pages.specs.Begins.{lead}
 use Rattle.pages.proofs.Words.{Byte}
-use Rattle.order.specs.declared.bytes.Order.TheVariants.{Less, Equal, Greater}
+use Rattle.std.specs.declared.cmp.Ordering.TheVariants.{Less, Equal, Greater}
 use Rattle.order.specs.Words.{WordsAsBytes}
 use Rattle.order.specs.Bytes.{order, word_order}
 use Rattle.order.proofs.Leads.{lead-less, lead-on}

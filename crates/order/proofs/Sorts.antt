@@ -12,7 +12,7 @@ use borrow.Author.Tests.{lt-ltb, le-ltb, lt-leb, le-leb, eq-eqb, ne_eqb}
 use Rattle.blockfile.specs.Order.{within, bytes_below, sign, same, bytes_rule, numbers_rule, is_offsets, key_rule}
 use Rattle.blockfile.proofs.Bools.{so, not_so, same-eq}
 use Rattle.laws.proofs.Orders.{Ordered, bytes-ordered, numbers-ordered}
-use Rattle.order.specs.declared.bytes.Order.TheVariants.{Less, Equal, Greater}
+use Rattle.std.specs.declared.cmp.Ordering.TheVariants.{Less, Equal, Greater}
 use Rattle.order.specs.declared.sort.Sort.{Sort}
 use Rattle.order.specs.declared.sort.Sort.TheVariants.{Bytes, Numbers}
 use Rattle.order.specs.Bytes.{order}

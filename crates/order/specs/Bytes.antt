@@ -1,20 +1,20 @@
 -- The order of two byte strings as an answer.
 use Rattle.std.specs.Prelude.{ℕ, ◌≤◌, ◌<◌, ◌≡◌, cond, List, length, drop, get_or}
 use Rattle.blockfile.specs.Order.{bytes_below, same}
-use Rattle.order.specs.declared.bytes.Order.{Order}
-use Rattle.order.specs.declared.bytes.Order.TheVariants.{Less, Equal, Greater}
+use Rattle.std.specs.declared.cmp.Ordering.{Ordering}
+use Rattle.std.specs.declared.cmp.Ordering.TheVariants.{Less, Equal, Greater}
 use Rattle.order.specs.Words.{words_below, words_same, words}
 
 -- the text's order of two keys
-unfoldable pub order : (k l : List ℕ) → Order
+unfoldable pub order : (k l : List ℕ) → Ordering
 order k l = cond (same k l) Equal (cond (bytes_below k l) Less Greater)
 
 -- the same, eight bytes at a time (request T-04)
-unfoldable pub word_order : (k l : List ℕ) → Order
+unfoldable pub word_order : (k l : List ℕ) → Ordering
 word_order k l = cond (words_same (words k l) k l) Equal (cond (words_below (words k l) k l) Less Greater)
 
 -- r is what comparing x and y eight bytes at a time gives, and that is their order
-pub record ByWords (x y : List ℕ) (r : Order) : Type 0 where
+pub record ByWords (x y : List ℕ) (r : Ordering) : Type 0 where
   pub words : r ≡ word_order x y
   pub bytes : r ≡ order x y
 

@@ -6,8 +6,8 @@ use Rattle.std.proofs.Common.{to_z}
 use Rattle.blockfile.specs.Bytes.{be32, Every}
 use Rattle.blockfile.specs.Order.{within, sign, numbers_below, same, KeyRule, bytes_rule, numbers_rule, is_offsets}
 use Rattle.pages.specs.Begins.{lead}
-use Rattle.order.specs.declared.bytes.Order.{Order}
-use Rattle.order.specs.declared.bytes.Order.TheVariants.{Less, Equal, Greater}
+use Rattle.std.specs.declared.cmp.Ordering.{Ordering}
+use Rattle.std.specs.declared.cmp.Ordering.TheVariants.{Less, Equal, Greater}
 use Rattle.order.specs.declared.sort.Sort.{Sort}
 use Rattle.order.specs.declared.sort.Sort.TheVariants.{Bytes, Numbers}
 use Rattle.order.specs.declared.sort.Lengths.{Lengths}
@@ -35,7 +35,7 @@ rule_as Bytes = bytes_rule
 rule_as Numbers = numbers_rule
 
 -- the order of two keys as an answer
-unfoldable pub order_as : Sort → (k l : List ℕ) → Order
+unfoldable pub order_as : Sort → (k l : List ℕ) → Ordering
 order_as s k l = cond (same k l) Equal (cond ((rule_as s).below k l) Less Greater)
 
 -- the sign that is compared before the bytes; by bytes all keys have the same

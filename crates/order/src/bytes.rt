@@ -1,23 +1,9 @@
 // Two byte strings compared: by blocks of 64 bytes while these are the same, by words of eight, and the bytes left over one by one.
 ghost use Rattle.std.specs.Prelude.{true, ◌≡◌, ◌+◌, ◌≤◌, length};
-ghost use Rattle.order.specs.Bytes.{order, ByWords, Least, SameFrom, Alike};
+ghost use Rattle.order.specs.Bytes.{order, ByWords, SameFrom, Alike};
 
 use pages::read::word64;
-
-// Which of two byte strings comes first.
-#[derive(Clone, Copy)]
-pub enum Order {
-    Less,
-    Equal,
-    Greater,
-}
-
-// The smaller of two numbers.
-pub fn least(m: usize, n: usize) -> usize
-    ensures { Least m n result }
-{
-    if m < n { m } else { n }
-}
+use std::cmp::Ordering;
 
 // Whether two strings have the same 64 bytes from there on. All of them are looked at, so that the compiler takes many at a time.
 fn same_block(x: &[u8], y: &[u8], from: usize) -> bool
@@ -53,7 +39,7 @@ fn same_blocks(x: &[u8], y: &[u8], n: usize) -> usize
 }
 
 // The order of two strings whose first `from` bytes are the same: byte by byte up to n, and then by their lengths.
-fn compare_rest(x: &[u8], y: &[u8], n: usize, from: usize) -> Order
+fn compare_rest(x: &[u8], y: &[u8], n: usize, from: usize) -> Ordering
     requires { Alike x.now y.now n from }
     ensures { result ≡ order x.now y.now }
 {
@@ -62,24 +48,24 @@ fn compare_rest(x: &[u8], y: &[u8], n: usize, from: usize) -> Order
         let a = x[i];
         let b = y[i];
         if a < b {
-            return Order::Less;
+            return Ordering::Less;
         }
         if b < a {
-            return Order::Greater;
+            return Ordering::Greater;
         }
         i += 1;
     }
     if x.len() < y.len() {
-        return Order::Less;
+        return Ordering::Less;
     }
     if y.len() < x.len() {
-        return Order::Greater;
+        return Ordering::Greater;
     }
-    Order::Equal
+    Ordering::Equal
 }
 
 // The same by whole words, and the bytes left over one by one.
-fn compare_words(x: &[u8], y: &[u8], n: usize, from: usize) -> Order
+fn compare_words(x: &[u8], y: &[u8], n: usize, from: usize) -> Ordering
     requires { Alike x.now y.now n from }
     ensures { result ≡ order x.now y.now }
 {
@@ -88,10 +74,10 @@ fn compare_words(x: &[u8], y: &[u8], n: usize, from: usize) -> Order
         let a = word64(x, i);
         let b = word64(y, i);
         if a < b {
-            return Order::Less;
+            return Ordering::Less;
         }
         if b < a {
-            return Order::Greater;
+            return Ordering::Greater;
         }
         i += 8;
     }
@@ -99,9 +85,9 @@ fn compare_words(x: &[u8], y: &[u8], n: usize, from: usize) -> Order
 }
 
 // The order of two byte strings.
-pub fn compare_bytes(x: &[u8], y: &[u8]) -> Order
+pub fn compare_bytes(x: &[u8], y: &[u8]) -> Ordering
     ensures { ByWords x.now y.now result }
 {
-    let n = least(x.len(), y.len());
+    let n = x.len().min(y.len());
     compare_words(x, y, n, same_blocks(x, y, n))
 }

@@ -8,7 +8,7 @@ use lib.Dec.{T, eqb→eq}
 use Rattle.blockfile.specs.Order.{KeyRule, within, all_within, name_rule, key_rule}
 use Rattle.blockfile.proofs.Bools.{and_both, within-is}
 use Rattle.laws.proofs.Orders.{Ordered, by-rule}
-use Rattle.order.specs.declared.bytes.Order.TheVariants.{Less, Greater}
+use Rattle.std.specs.declared.cmp.Ordering.TheVariants.{Less, Greater}
 use Rattle.order.specs.declared.sort.Sort.TheVariants.{Bytes}
 use Rattle.order.specs.Sorts.{table_sort, rule_as, order_as}
 use Rattle.order.proofs.Sorts.{rule-as, sort-ordered, less-below, greater-below}

@@ -17,8 +17,8 @@ use Rattle.laws.proofs.Orders.{Ordered}
 use Rattle.laws.proofs.Maps.{find-low}
 use Rattle.laws.proofs.Middle.{under-differs, under-not-over}
 use Rattle.pages.specs.Places.{Inside}
-use Rattle.order.specs.declared.bytes.Order.{Order}
-use Rattle.order.specs.declared.bytes.Order.TheVariants.{Less, Equal, Greater}
+use Rattle.std.specs.declared.cmp.Ordering.{Ordering}
+use Rattle.std.specs.declared.cmp.Ordering.TheVariants.{Less, Equal, Greater}
 use Rattle.order.specs.declared.sort.Sort.{Sort}
 use Rattle.order.specs.Sorts.{order_as}
 use Rattle.order.proofs.Sorts.{equal-same, some_below}
@@ -198,7 +198,7 @@ module _ {img : List ℕ} {r : KeyRule} {k : List ℕ} {es : List Entry} {at : P
   pub opened-entry : EntryAt img g s.first s.more
   opened-entry = along-entry s.ahead.along g m
 
-  module _ (w : Sorts r) {sort : Sort} (by : w.sort ≡ sort) (a : Order) (c : ComparedAs sort img g.after g.key k a) where
+  module _ (w : Sorts r) {sort : Sort} (by : w.sort ≡ sort) (a : Ordering) (c : ComparedAs sort img g.after g.key k a) where
     compared : a ≡ order_as w.sort s.first.key k
     compared = c.is s.first.key (bytes-key opened-entry.key) ∙ ap (λ (i : Sort). order_as i s.first.key k) (sym by)
 
@@ -346,7 +346,7 @@ module _ {img : List ℕ} {page : ℕ} (x : SpanOn img page) where
     unfolding span-entry opening
     span-first = ap (above x.rule []) opening.is
 
-    module _ (k : List ℕ) (g : Sizes) (m : Measured img (record { page = page; offset = 20 }) g) {sort : Sort} (by : x.there.order.sort ≡ sort) (a : Order)
+    module _ (k : List ℕ) (g : Sizes) (m : Measured img (record { page = page; offset = 20 }) g) {sort : Sort} (by : x.there.order.sort ≡ sort) (a : Ordering)
         (c : ComparedAs sort img g.after g.key k a) (b : Bool) where
       abbrev j : List ℕ
       j = opening.first.key

@@ -4,10 +4,10 @@ ghost use Rattle.search.specs.Spans.{SpanBy, FilledBy, EntryThere, StoppedOn, Fo
 
 use entries::place::{Place, Sizes, lengths};
 use entries::sorted::compare_as;
-use order::bytes::Order;
 use order::sort::Sort;
 use pages::read::get16;
 use reader::place_after;
+use std::cmp::Ordering;
 
 // Bytes of a span, a key or a value: the place where they begin, and how many.
 #[derive(Clone, Copy)]
@@ -39,14 +39,14 @@ pub fn seek(image: &[u8], page: usize, sort: Sort, key: &[u8]) -> Stop
         let first = g.after;
         let order = compare_as(image, first, g.key, sort, key);
         match order {
-            Order::Less => {
+            Ordering::Less => {
                 at = place_after(image, first, g.key + g.value);
                 left -= 1;
             }
-            Order::Equal => {
+            Ordering::Equal => {
                 return Stop::Here(g, left);
             }
-            Order::Greater => {
+            Ordering::Greater => {
                 return Stop::Above(g, left);
             }
         }
@@ -119,8 +119,8 @@ pub fn begins_past(image: &[u8], page: usize, bound: Bound, key: &[u8]) -> bool
     let sort = bound.sort;
     let order = compare_as(image, first, g.key, sort, key);
     match order {
-        Order::Greater => true,
-        Order::Less => false,
-        Order::Equal => bound.strict,
+        Ordering::Greater => true,
+        Ordering::Less => false,
+        Ordering::Equal => bound.strict,
     }
 }

@@ -17,8 +17,8 @@ use Rattle.blockfile.proofs.Bools.{so, not_so, and_both, both-and}
 use Rattle.pages.specs.Places.{Number}
 use Rattle.entries.specs.declared.place.Place.{Place}
 use Rattle.entries.specs.declared.place.Sizes.{Sizes}
-use Rattle.order.specs.declared.bytes.Order.{Order}
-use Rattle.order.specs.declared.bytes.Order.TheVariants.{Less}
+use Rattle.std.specs.declared.cmp.Ordering.{Ordering}
+use Rattle.std.specs.declared.cmp.Ordering.TheVariants.{Less}
 use Rattle.order.specs.declared.sort.Sort.{Sort}
 use Rattle.order.specs.declared.sort.Sort.TheVariants.{Bytes, Numbers}
 use Rattle.order.specs.declared.sort.Lengths.{Lengths}
@@ -72,7 +72,7 @@ four-taken (a ∷ b ∷ c ∷ d ∷ s) h = refl
 -- ---- a key and the last key met
 
 -- by bytes
-module _ {img : List ℕ} {l : Last} {at : Place} {n : ℕ} {o : Order} (c : Compared img l.at l.length at n o) where
+module _ {img : List ℕ} {l : Last} {at : Place} {n : ℕ} {o : Ordering} (c : Compared img l.at l.length at n o) where
   pub bytes-above : o ≡ Less → IsAbove Bytes img l at n true
   bytes-above e = record { is = λ low k u v. sym (so (bytes_below low k) (less-below low k (sym (c.is low k u.there v) ∙ e))) }
 

@@ -14,10 +14,10 @@ use entries::key::compare_keys;
 use entries::place::{Place, gap, lengths};
 use entries::rank::{rank, rank_most};
 use heads::claim::head32;
-use order::bytes::Order;
 use order::sort::{Lengths, Sort, lengths_of, turned};
 use pages::read::get16;
 use reader::place_after;
+use std::cmp::Ordering;
 
 // The last key met: its place, its length, 0 where there is none, and a number that its rank is not above.
 #[derive(Clone, Copy)]
@@ -68,9 +68,9 @@ fn above_bytes(image: &[u8], last: Last, at: Place, key: usize) -> bool
     let length = last.length;
     let order = compare_keys(image, before, length, at, key);
     match order {
-        Order::Less => true,
-        Order::Equal => false,
-        Order::Greater => false,
+        Ordering::Less => true,
+        Ordering::Equal => false,
+        Ordering::Greater => false,
     }
 }
 
