@@ -5,17 +5,15 @@ use mathlib.Core.List.{List, [], ◌∷◌}
 use mathlib.Core.Option.{none}
 use mathlib.Core.Bool.{Bool, true, false, not, ◌||◌, true≢false}
 use borrow.Author.Tests.{not-false}
+use Rattle.std.specs.Prelude.{Result, Ok, Err}
 use Rattle.blockfile.specs.declared.Refusal.{Refusal}
 use Rattle.blockfile.specs.declared.Refusal.TheVariants.{NameOrKey, ValueLength, NoTable}
-use Rattle.blockfile.specs.declared.Wrote.TheVariants.{Refused as NotWrote}
 use Rattle.blockfile.specs.Order.{KeyRule, key_rule}
 use Rattle.blockfile.specs.Refusals.{Op, Ledger, ledger_of, bad_name, no_table, lowest}
 use Rattle.order.specs.declared.sort.Sort.{Sort}
 use Rattle.order.specs.Sorts.{table_sort, rule_as}
 use Rattle.order.proofs.Sorts.{rule-by}
 use Rattle.edit.specs.Puts.{TableAt}
-use Rattle.refusals.specs.declared.table.Entered.{Entered}
-use Rattle.refusals.specs.declared.table.Entered.TheVariants.{Refused, Found}
 use Rattle.refusals.specs.Table.{table_rows, OnTable, TableIn, NamedTable, NamedIn}
 use Rattle.refusals.proofs.Rows.{lowest-none}
 use Rattle.refusals.proofs.Tables.{rows-refuse}
@@ -40,16 +38,16 @@ tests-passed l name legal short e =
     let five = lowest-none (not short, ValueLength) ((no_table l name, NoTable) ∷ []) four.1 in
     (not-false legal (or-false (bad_name name) (not legal) four.0), not-false short five.0)
 
-module _ {img s : List ℕ} {free : ℕ} (lent : Lending img s free) {name : List ℕ} {legal short : Bool} {r : Entered} (n : NamedTable img name legal short r) where
-  pub named-refused : {op : Op} → OnTable op name legal short → (f : Refusal) → r ≡ Refused f → Changed op img (NotWrote f) img
+module _ {img s : List ℕ} {free : ℕ} (lent : Lending img s free) {name : List ℕ} {legal short : Bool} {r : Result ℕ Refusal} (n : NamedTable img name legal short r) where
+  pub named-refused : {op : Op} → OnTable op name legal short → (f : Refusal) → r ≡ Err f → Changed op img (Err f) img
   named-refused on f e =
-      let row : NamedIn lent.layout name legal short (Refused f)
-      = subst (λ (x : Entered). NamedIn lent.layout name legal short x) e (n.is lent.layout lent.well) in
+      let row : NamedIn lent.layout name legal short (Err f)
+      = subst (λ (x : Result ℕ Refusal). NamedIn lent.layout name legal short x) e (n.is lent.layout lent.well) in
       record { layout = lent.layout; well = lent.well; writes = []; outcome = rows-refuse on lent.layout 0 f row; image = refl }
 
-  module _ (page : ℕ) (e : r ≡ Found page) where
+  module _ (page : ℕ) (e : r ≡ Ok page) where
     abbrev pub found : (lowest (table_rows (ledger_of lent.layout) name legal short) ≡ none) × TableIn lent.layout name page
-    found = subst (λ (x : Entered). NamedIn lent.layout name legal short x) e (n.is lent.layout lent.well)
+    found = subst (λ (x : Result ℕ Refusal). NamedIn lent.layout name legal short x) e (n.is lent.layout lent.well)
 
     pub table_at : {sort : Sort} → sort ≡ table_sort name → TableAt img (record { root = page; sort = sort }) lent.layout name found.1.table
     table_at by = record { well = lent.well; found = found.1.found; at = found.1.root; sorts = by }

@@ -7,10 +7,9 @@ use mathlib.Core.Bool.{Bool, true, false, not}
 use borrow.Author.Tests.{ltb-false, not-true}
 use lib.ListN.{length}
 use lib.Dec.{ltb}
-use Rattle.std.specs.Prelude.{Option}
+use Rattle.std.specs.Prelude.{Option, Result, Ok, Err}
 use Rattle.blockfile.specs.declared.Refusal.{Refusal}
 use Rattle.blockfile.specs.declared.Refusal.TheVariants.{NoRoom}
-use Rattle.blockfile.specs.declared.Wrote.TheVariants.{Refused as NotWrote}
 use Rattle.blockfile.specs.Plan.{Plan}
 use Rattle.blockfile.specs.Put.{put_plan}
 use Rattle.blockfile.specs.Refusals.{put, ledger_of, refused}
@@ -21,8 +20,6 @@ use Rattle.laws.proofs.Preserves.{few-after}
 use Rattle.order.specs.declared.sort.Sort.{Sort}
 use Rattle.search.specs.declared.table.TableRef.{TableRef}
 use Rattle.edit.specs.Puts.{PutReady, PutDone}
-use Rattle.refusals.specs.declared.table.Entered.{Entered}
-use Rattle.refusals.specs.declared.table.Entered.TheVariants.{Refused, Found}
 use Rattle.refusals.specs.Table.{OnTable, NamedTable}
 use Rattle.refusals.proofs.Tables.{rows_left}
 use Rattle.change.specs.Change.{Lending, Changed}
@@ -42,11 +39,11 @@ module _ {name key value : List ℕ} {sort : Sort} {legal short : Bool} (j : Jud
   abbrev put_on : OnTable (put name key value) name legal short
   put_on = record { more = λ l room. []; are = λ l room. rw (legal-is j.of_key, j.value_is, sym (not-not (ltb 65535 (length value)))) }
 
-  module _ {img s : List ℕ} {free : ℕ} (lent : Lending img s free) {r : Entered} (n : NamedTable img name legal short r) where
-    pub put_refused : (f : Refusal) → r ≡ Refused f → Changed (put name key value) img (NotWrote f) img
+  module _ {img s : List ℕ} {free : ℕ} (lent : Lending img s free) {r : Result ℕ Refusal} (n : NamedTable img name legal short r) where
+    pub put_refused : (f : Refusal) → r ≡ Err f → Changed (put name key value) img (Err f) img
     put_refused = named-refused lent n put_on
 
-    module _ (page : ℕ) (e : r ≡ Found page) where
+    module _ (page : ℕ) (e : r ≡ Ok page) where
       abbrev table : TableRef
       table = record { root = page; sort = sort }
 

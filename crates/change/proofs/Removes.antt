@@ -4,10 +4,9 @@ use mathlib.Core.Path.{◌≡◌, refl, ap, sym, ◌∙◌, subst}
 use mathlib.Core.List.{List, [], ◌∷◌}
 use mathlib.Core.Option.{Option as TextOption, none, some}
 use mathlib.Core.Bool.{Bool, true, false, not}
-use Rattle.std.specs.Prelude.{Option}
+use Rattle.std.specs.Prelude.{Option, Result, Ok, Err}
 use Rattle.blockfile.specs.declared.Refusal.{Refusal}
 use Rattle.blockfile.specs.declared.Refusal.TheVariants.{NoKey}
-use Rattle.blockfile.specs.declared.Wrote.TheVariants.{Refused as NotWrote}
 use Rattle.blockfile.specs.Layout.{Table, Layout, entries_of}
 use Rattle.blockfile.specs.Order.{find, there}
 use Rattle.blockfile.specs.Plan.{Plan, lacks}
@@ -21,8 +20,6 @@ use Rattle.laws.proofs.Preserves.{few-after}
 use Rattle.order.specs.declared.sort.Sort.{Sort}
 use Rattle.search.specs.declared.table.TableRef.{TableRef}
 use Rattle.remove.specs.Removes.{RemoveReady, RemoveDone}
-use Rattle.refusals.specs.declared.table.Entered.{Entered}
-use Rattle.refusals.specs.declared.table.Entered.TheVariants.{Refused, Found}
 use Rattle.refusals.specs.Table.{OnTable, NamedTable}
 use Rattle.refusals.proofs.Tables.{its_map, rows_left}
 use Rattle.change.specs.Change.{Lending, Changed}
@@ -33,11 +30,11 @@ module _ {name key : List ℕ} {sort : Sort} {legal : Bool} (j : KeyJudged name 
   abbrev remove_on : OnTable (remove name key) name legal true
   remove_on = record { more = λ l room. (not (there (sought l (remove name key))), NoKey) ∷ []; are = λ l room. rw (legal-is j) }
 
-  module _ {img s : List ℕ} {free : ℕ} (lent : Lending img s free) {r : Entered} (n : NamedTable img name legal true r) where
-    pub remove-refused : (f : Refusal) → r ≡ Refused f → Changed (remove name key) img (NotWrote f) img
+  module _ {img s : List ℕ} {free : ℕ} (lent : Lending img s free) {r : Result ℕ Refusal} (n : NamedTable img name legal true r) where
+    pub remove-refused : (f : Refusal) → r ≡ Err f → Changed (remove name key) img (Err f) img
     remove-refused = named-refused lent n remove_on
 
-    module _ (page : ℕ) (e : r ≡ Found page) where
+    module _ (page : ℕ) (e : r ≡ Ok page) where
       abbrev L : Layout
       L = lent.layout
 

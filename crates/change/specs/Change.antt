@@ -1,8 +1,6 @@
 -- What the calls that write ask for on an accepted image, and what they leave of it.
-use Rattle.std.specs.Prelude.{ℕ, ◌≤◌, ◌≡◌, List, [], ◌∷◌, length, Option, Some, None}
+use Rattle.std.specs.Prelude.{ℕ, ◌≤◌, ◌≡◌, List, [], ◌∷◌, length, Option, Some, None, Result, Ok, Err}
 use Rattle.blockfile.specs.declared.Refusal.{Refusal}
-use Rattle.blockfile.specs.declared.Wrote.{Wrote}
-use Rattle.blockfile.specs.declared.Wrote.TheVariants.{Done, Refused}
 use Rattle.blockfile.specs.Bytes.{Write, apply}
 use Rattle.blockfile.specs.Layout.{Layout, free_count}
 use Rattle.blockfile.specs.WellFormed.{WellFormed}
@@ -20,7 +18,7 @@ pub record Lending (img scratch : List ℕ) (free : ℕ) : Type 0 where
   pub long : length scratch ≡ length img
 
 -- the answer is that of the call's outcome on the image's layout, and the image after has the outcome's writes
-pub record Changed (op : Op) (img : List ℕ) (r : Wrote) (out : List ℕ) : Type 0 where
+pub record Changed (op : Op) (img : List ℕ) (r : Result (Unit {0}) Refusal) (out : List ℕ) : Type 0 where
   pub layout : Layout
   pub well : WellFormed img layout
   pub writes : List Write
@@ -35,6 +33,6 @@ pub record Settleable (img : List ℕ) (a : Option ℕ) : Type 0 where
   pub few : (n : ℕ) → a ≡ Some n → n ≤ 4096
 
 -- where nothing was changed the call is refused; else it is done, and the count of the pages that are left is kept
-abbrev pub Settled : (img : List ℕ) → Option ℕ → Refusal → Wrote → (out : List ℕ) → Type 0
-Settled img None f r out = (r ≡ Refused f) × (out ≡ img)
-Settled img (Some n) f r out = (r ≡ Done) × (out ≡ apply (kept_on n ∷ []) img)
+abbrev pub Settled : (img : List ℕ) → Option ℕ → Refusal → Result (Unit {0}) Refusal → (out : List ℕ) → Type 0
+Settled img None f r out = (r ≡ Err f) × (out ≡ img)
+Settled img (Some n) f r out = (r ≡ Ok tt) × (out ≡ apply (kept_on n ∷ []) img)

@@ -3,11 +3,11 @@ ghost use Rattle.blockfile.specs.Refusals.{put};
 ghost use Rattle.change.specs.Change.{Lending, Changed};
 
 use crate::settle::settle;
-use blockfile::{Refusal, Wrote};
+use blockfile::Refusal;
 use edit::put::put;
 use order::sort::sort_of;
 use refusals::legal::{is_key, is_value};
-use refusals::table::{Entered, named_table};
+use refusals::table::named_table;
 use search::table::TableRef;
 
 // Puts the value under the key in the table of the name. `free` is the number of free pages; of the scratch, which is as long as
@@ -19,17 +19,12 @@ pub fn put_entry(
     name: &[u8],
     key: &[u8],
     value: &[u8],
-) -> Wrote
+) -> Result<(), Refusal>
     requires { Lending image.old scratch.old free }
     ensures { Changed (put name.now key.now value.now) image.old result image.new }
 {
     let sort = sort_of(name);
-    match named_table(image, name, is_key(sort, key), is_value(value)) {
-        Entered::Refused(why) => Wrote::Refused(why),
-        Entered::Found(page) => {
-            let table = TableRef { root: page, sort };
-            let applied = put(image, scratch, table, free, key, value);
-            settle(image, applied, Refusal::NoRoom)
-        }
-    }
+    let root = named_table(image, name, is_key(sort, key), is_value(value))?;
+    let left = put(image, scratch, TableRef { root, sort }, free, key, value);
+    settle(image, left, Refusal::NoRoom)
 }

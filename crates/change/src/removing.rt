@@ -3,10 +3,10 @@ ghost use Rattle.blockfile.specs.Refusals.{remove};
 ghost use Rattle.change.specs.Change.{Lending, Changed};
 
 use crate::settle::settle;
-use blockfile::{Refusal, Wrote};
+use blockfile::Refusal;
 use order::sort::sort_of;
 use refusals::legal::is_key;
-use refusals::table::{Entered, named_table};
+use refusals::table::named_table;
 use remove::remove::remove;
 use search::table::TableRef;
 
@@ -18,17 +18,12 @@ pub fn remove_entry(
     free: usize,
     name: &[u8],
     key: &[u8],
-) -> Wrote
+) -> Result<(), Refusal>
     requires { Lending image.old scratch.old free }
     ensures { Changed (remove name.now key.now) image.old result image.new }
 {
     let sort = sort_of(name);
-    match named_table(image, name, is_key(sort, key), true) {
-        Entered::Refused(why) => Wrote::Refused(why),
-        Entered::Found(page) => {
-            let table = TableRef { root: page, sort };
-            let applied = remove(image, scratch, table, free, key);
-            settle(image, applied, Refusal::NoKey)
-        }
-    }
+    let root = named_table(image, name, is_key(sort, key), true)?;
+    let left = remove(image, scratch, TableRef { root, sort }, free, key);
+    settle(image, left, Refusal::NoKey)
 }

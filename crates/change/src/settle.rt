@@ -1,19 +1,17 @@
 // How a call ends whose change was tried.
 ghost use Rattle.change.specs.Change.{Settleable, Settled};
 
-use blockfile::{Refusal, Wrote};
+use blockfile::Refusal;
 use pages::free::keep_count;
 
-// Keeps the count of the pages that a change left free, and answers done; refuses with `why` where nothing was changed, which is none.
-pub fn settle(image: &mut [u8], applied: Option<usize>, why: Refusal) -> Wrote
-    requires { Settleable image.old applied }
-    ensures { Settled image.old applied why result image.new }
+// Keeps the count of the pages that a change left free; refuses with `why` where nothing was changed.
+pub fn settle(image: &mut [u8], left: Option<usize>, why: Refusal) -> Result<(), Refusal>
+    requires { Settleable image.old left }
+    ensures { Settled image.old left why result image.new }
 {
-    match applied {
-        None => Wrote::Refused(why),
-        Some(free) => {
-            keep_count(image, free);
-            Wrote::Done
-        }
-    }
+    let Some(free) = left else {
+        return Err(why);
+    };
+    keep_count(image, free);
+    Ok(())
 }

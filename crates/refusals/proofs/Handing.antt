@@ -3,31 +3,19 @@ use Prim.Native.Nat.{ℕ, ◌≤◌, ◌<◌}
 use native.Mathlib.Omega.{arith}
 use mathlib.Core.Path.{◌≡◌, refl, ap}
 use mathlib.Core.List.{List}
-use mathlib.Core.Option.{Option}
+use mathlib.Core.Option.{Option as TextOption}
 use borrow.Author.Tests.{lt-ltb, le-ltb}
 use lib.ListN.{length}
 use Rattle.blockfile.specs.declared.Refusal.{Refusal}
 use Rattle.blockfile.specs.declared.Refusal.TheVariants.{NoKey, BufferShort}
-use Rattle.std.specs.Prelude.{Option as Maybe, Some, None, Ok, Err, ok_or}
+use Rattle.std.specs.Prelude.{Option, Some, None, Ok, Err}
 use Rattle.entries.specs.Places.{Enough, Copied}
 use Rattle.search.specs.declared.span.Extent.{Extent}
 use Rattle.search.specs.Spans.{Answered}
 use Rattle.search.proofs.Entries.{bytes-enough, bytes-length, bytes-copied}
 use Rattle.refusals.specs.Answer.{Hands}
 
--- ---- What was found, or that nothing was
-
-pub found-as : (o : Maybe Extent) (f : Refusal) {x : Extent} → ok_or o f ≡ Ok x → o ≡ Some x
-found-as None f e = absurd (let z : ◌≡◌ {A = ℕ} 0 1 = cc in omega arith)
-found-as (Some y) f e = let same : y ≡ _ = cc in ap (λ (i : Extent). Some i) same
-
-pub not-found : (o : Maybe Extent) (f : Refusal) {g : Refusal} → ok_or o f ≡ Err g → (o ≡ None) × (g ≡ f)
-not-found None f e = (refl, cc)
-not-found (Some y) f e = absurd (let z : ◌≡◌ {A = ℕ} 0 1 = cc in omega arith)
-
--- ---- The ways out
-
-module _ {img : List ℕ} {o : Option (List ℕ)} {found : Maybe Extent} (a : Answered img o found) where
+module _ {img : List ℕ} {o : TextOption (List ℕ)} {found : Option Extent} (a : Answered img o found) where
   pub hand-none : found ≡ None → (old : List ℕ) → Hands o old (Err NoKey) old
   hand-none e old = (rw (a.missing e), refl)
 

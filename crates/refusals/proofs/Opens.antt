@@ -76,7 +76,7 @@ module _ (img s : List ℕ) (fits : Fits img s) (r : Option Counts) (judged : Ju
   -- no layout fits: the call is refused, and the scratch cleared
   pub bad : r ≡ None → (mid out : List ℕ) → drop (length img) mid ≡ drop (length img) s → out ≡ cleared (length img) mid
       → (op : Op) (room : ℕ) → Called op img s room (refuse NotWellFormed) out
-  bad e mid out past clear op room = malformed fits.sized fits.enough none refl (ends (length img) s mid out past clear)
+  bad e mid out past clear op _ = malformed fits.sized fits.enough none refl (ends (length img) s mid out past clear)
     where
       none : Rejected img
       none L w = none-some (counts_of L) (sym e ∙ judged.complete L w)

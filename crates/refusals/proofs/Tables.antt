@@ -2,10 +2,10 @@
 use Prim.Native.Nat.{ℕ}
 use mathlib.Core.Path.{◌≡◌, refl, sym, ap, ◌∙◌, subst}
 use mathlib.Core.List.{List, []}
-use mathlib.Core.Option.{Option, none, some, map, get_or}
+use mathlib.Core.Option.{Option as TextOption, none, some, map, get_or}
 use mathlib.Core.Bool.{Bool, true, false, not, ◌||◌}
 use lib.ListN.{length}
-use Rattle.std.specs.Prelude.{Option as Maybe, Some, None, Result, Ok, Err, ok_or}
+use Rattle.std.specs.Prelude.{Option, Some, None, Result, Ok, Err, ok_or}
 use Rattle.blockfile.specs.declared.Counts.{Counts}
 use Rattle.blockfile.specs.declared.Refusal.{Refusal}
 use Rattle.blockfile.specs.declared.Refusal.TheVariants.{NameOrKey, ValueLength, NoTable}
@@ -29,14 +29,14 @@ module _ (L : Layout) (name : List ℕ) where
   map_found = find-under entries_of name L.tables
 
   pub no_table_lem : find name L.tables ≡ none → no_table (ledger_of L) name ≡ true
-  no_table_lem e = ap (λ (o : Option (List Entry)). not (there o)) (map_found ∙ ap (map entries_of) e)
+  no_table_lem e = ap (λ (o : TextOption (List Entry)). not (there o)) (map_found ∙ ap (map entries_of) e)
 
   module _ (t : Table) (e : find name L.tables ≡ some t) where
     pub has-table : no_table (ledger_of L) name ≡ false
-    has-table = ap (λ (o : Option (List Entry)). not (there o)) (map_found ∙ ap (map entries_of) e)
+    has-table = ap (λ (o : TextOption (List Entry)). not (there o)) (map_found ∙ ap (map entries_of) e)
 
     pub its_map : map_of (ledger_of L) name ≡ entries_of t
-    its_map = ap (λ (o : Option (List Entry)). get_or o []) (map_found ∙ ap (map entries_of) e)
+    its_map = ap (λ (o : TextOption (List Entry)). get_or o []) (map_found ∙ ap (map entries_of) e)
 
 -- ---- The ways through `named_table`
 
@@ -55,11 +55,11 @@ module _ (img name : List ℕ) (legal short : Bool) where
     pub long-value : short ≡ false → NamedTable img name legal short (Err ValueLength)
     long-value e = record { is = λ L w. rw (ok, good, e) }
 
-    module _ (fits : short ≡ true) (r : Maybe ℕ) (n : NamedAs img name r) where
+    module _ (fits : short ≡ true) (r : Option ℕ) (n : NamedAs img name r) where
       pub known : NamedTable img name legal short (ok_or r NoTable)
       known = go r refl
         where
-          go : (o : Maybe ℕ) → r ≡ o → NamedTable img name legal short (ok_or o NoTable)
+          go : (o : Option ℕ) → r ≡ o → NamedTable img name legal short (ok_or o NoTable)
           go None e = record { is = λ L w. rw (ok, good, fits, no_table_lem L name ((n.is L w).unknown e)) }
           go (Some page) e =
               record {

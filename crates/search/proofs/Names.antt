@@ -3,7 +3,7 @@ use Prim.Native.Nat.{ℕ, ◌<◌}
 use native.Mathlib.Omega.{arith}
 use mathlib.Core.Path.{◌≡◌, refl, ap, sym, ◌∙◌}
 use mathlib.Core.List.{List}
-use mathlib.Core.Option.{Option, none, some, map}
+use mathlib.Core.Option.{Option as TextOption, none, some, map}
 use lib.ListN.{length, take}
 use lib.Seq.{get_or-take, length-take-le}
 use Rattle.blockfile.specs.Bytes.{be32, word32}
@@ -14,7 +14,8 @@ use Rattle.laws.proofs.Numbers.{be32-agree, be32-word32, length-word32}
 use Rattle.laws.proofs.Middle.{find-under}
 use Rattle.entries.specs.declared.place.Place.{Place}
 use Rattle.entries.specs.Places.{Enough, Numbered}
-use Rattle.std.specs.Prelude.{Option as Maybe, Some, None}
+use Rattle.std.specs.Prelude.{Option, Some, None}
+use Rattle.std.proofs.lemmas.Option.{none-some, same_Some}
 use Rattle.search.specs.declared.span.Extent.{Extent}
 use Rattle.search.specs.Spans.{BytesAt, Answered}
 use Rattle.search.specs.Tables.{metaindex, FoundIn, NamedIn}
@@ -37,24 +38,24 @@ module _ (img : List ℕ) (L : Layout) (w : WellFormed img L) (name : List ℕ) 
   under : (v : List ℕ) → find name (entries_of L.meta) ≡ some v → Under v
   under v e = go (find name L.tables) refl (sym meta-find ∙ e)
     where
-      go : (o : Option Table) → find name L.tables ≡ o → map root_bytes o ≡ some v → Under v
+      go : (o : TextOption Table) → find name L.tables ≡ o → map root_bytes o ≡ some v → Under v
       go none q f = absurd (let z : ◌≡◌ {A = ℕ} 0 1 = cc in omega arith)
       go (some t) q f = record { table = t; is = q; bytes = (cc) }
 
   unknown : find name (entries_of L.meta) ≡ none → find name L.tables ≡ none
   unknown e = go (find name L.tables) (sym meta-find ∙ e)
     where
-      go : (o : Option Table) → map root_bytes o ≡ none → o ≡ none
+      go : (o : TextOption Table) → map root_bytes o ≡ none → o ≡ none
       go none f = refl
       go (some t) f = absurd (let z : ◌≡◌ {A = ℕ} 0 1 = cc in omega arith)
 
-  module _ (a : Maybe Extent) (f : FoundIn img metaindex name a) where
+  module _ (a : Option Extent) (f : FoundIn img metaindex name a) where
     there : Answered img (find name (entries_of L.meta)) a
     there = f.is (meta_by img L w)
 
     pub named_none : a ≡ None → NamedIn L name None
     named_none e =
-        record { root = λ p q. absurd (let z : ◌≡◌ {A = ℕ} 0 1 = cc in omega arith); unknown = λ q. unknown (there.missing e) }
+        record { root = λ p q. absurd (none-some p q); unknown = λ q. unknown (there.missing e) }
 
     module _ (x : Extent) (e : a ≡ Some x) where
       value : (v : List ℕ) × (find name (entries_of L.meta) ≡ some v) × BytesAt img x.at x.length v
@@ -82,6 +83,6 @@ module _ (img : List ℕ) (L : Layout) (w : WellFormed img L) (name : List ℕ) 
           let is : r ≡ named.table.root
           = h.is bs value.2.rest ∙ first ∙ ap (λ (b : List ℕ). be32 b 0) (sym value.2.is ∙ named.bytes) ∙ be32-word32 named.table.root small-root in
           record {
-            root = λ p q. (named.table, named.is, let same : r ≡ p = cc in sym is ∙ same);
-            unknown = λ q. absurd (let z : ◌≡◌ {A = ℕ} 0 1 = cc in omega arith);
+            root = λ p q. (named.table, named.is, sym is ∙ same_Some r p q);
+            unknown = λ q. absurd (none-some r (sym q));
           }

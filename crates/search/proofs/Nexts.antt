@@ -6,7 +6,7 @@ use mathlib.Core.Path.{◌≡◌, refl, ap, sym, ◌∙◌, subst}
 use mathlib.Core.Logic.{by_cases}
 use mathlib.Core.Bool.{not, false}
 use mathlib.Core.List.{List, [], ◌∷◌, map}
-use mathlib.Core.Option.{Option}
+use mathlib.Core.Option.{Option as TextOption}
 use lib.ListN.{length, drop, drop_of_length-le}
 use lib.Seq.{drop-cons}
 use lib.Dec.{T}
@@ -20,7 +20,7 @@ use Rattle.laws.proofs.Middle.{AllOver, or_then}
 use Rattle.laws.proofs.Targets.{next_span_key, above-empty, least-key, above_at}
 use Rattle.laws.proofs.Paths.{last-behind}
 use Rattle.order.proofs.Sorts.{below-some}
-use Rattle.std.specs.Prelude.{Option as Maybe, Some, None}
+use Rattle.std.specs.Prelude.{Option, Some, None}
 use Rattle.search.specs.declared.span.Extent.{Extent}
 use Rattle.search.specs.declared.table.TableRef.{TableRef}
 use Rattle.search.specs.Spans.{Sorts, SpanOn, EntryThere, Answered, AboveOn, KeyOf}
@@ -57,7 +57,7 @@ module _ {img : List ℕ} {root : ℕ} (t : Reading img root) where
   unfolding span_at
   least =
       least-key t.rule t.table t.readable.ok
-      ∙ ap (λ (o : Option (List ℕ)). or_then o (next_span_key (drop 1 (spans_here t)))) (sym (above-empty t.rule t.table.first.entries))
+      ∙ ap (λ (o : TextOption (List ℕ)). or_then o (next_span_key (drop 1 (spans_here t)))) (sym (above-empty t.rule t.table.first.entries))
 
   above-target : (k : List ℕ)
       → above t.rule k (entries_of t.table) ≡ or_then (above t.rule k (span_at t.table (place t k)).entries) (next_span_key (drop (suc (place t k)) (spans_here t)))
@@ -67,7 +67,7 @@ module _ {img : List ℕ} {root : ℕ} (t : Reading img root) where
       (sym empty-first) least
   above-target (x ∷ k) = above_at t.rule (ordered t) (x ∷ k) t.table (place t (x ∷ k)) (at_target t (x ∷ k)) t.readable.ok refl
 
-module _ {img : List ℕ} {d : TableRef} (x : ReadingBy img d) (k : List ℕ) (page : ℕ) (h : TargetIn img d k page) (a : Maybe Extent) (f : AboveOn img page d.sort k a) where
+module _ {img : List ℕ} {d : TableRef} (x : ReadingBy img d) (k : List ℕ) (page : ℕ) (h : TargetIn img d k page) (a : Option Extent) (f : AboveOn img page d.sort k a) where
   abbrev t : Reading img d.root
   t = x.of
 
@@ -80,14 +80,14 @@ module _ {img : List ℕ} {d : TableRef} (x : ReadingBy img d) (k : List ℕ) (p
       let v = here.found x e in
       let same : or_then (above t.rule k (span_at t.table (place t k)).entries) (next_span_key (drop (suc (place t k)) (spans_here t)))
       ≡ above t.rule k (span_at t.table (place t k)).entries = rw v.1 in
-      subst (λ (r : Maybe Extent). Answered img (above t.rule k (entries_of t.table)) r) e (answer-as (above-target t k ∙ same) here)
+      subst (λ (r : Option Extent). Answered img (above t.rule k (entries_of t.table)) r) e (answer-as (above-target t k ∙ same) here)
 
   module _ (e : a ≡ None) (next : ℕ) (is : next ≡ be32 (pg img page) 12) where
     abbrev behind : ℕ
     behind = suc (place t k)
 
     above-behind : above t.rule k (entries_of t.table) ≡ next_span_key (drop behind (spans_here t))
-    above-behind = above-target t k ∙ ap (λ (o : Option (List ℕ)). or_then o (next_span_key (drop behind (spans_here t)))) (here.missing e)
+    above-behind = above-target t k ∙ ap (λ (o : TextOption (List ℕ)). or_then o (next_span_key (drop behind (spans_here t)))) (here.missing e)
 
     linked : next ≡ first_of (map (λ s. s.page) (drop behind (spans_here t)))
     linked = is ∙ next-at t (place t k) (at_target t k).place page (h.is x)

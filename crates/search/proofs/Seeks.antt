@@ -4,7 +4,7 @@ use native.Mathlib.Omega.{arith}
 use mathlib.Core.Path.{◌≡◌, refl, ap, sym, ◌∙◌, subst}
 use mathlib.Core.Bool.{Bool, true, false, not, ◌||◌}
 use mathlib.Core.List.{List, [], ◌∷◌, ◌++◌, append_assoc}
-use mathlib.Core.Option.{Option, none, some}
+use mathlib.Core.Option.{Option as TextOption, none, some}
 use lib.ListN.{length}
 use lib.Dec.{T}
 use Rattle.blockfile.specs.Bytes.{pg, be16, Every}
@@ -26,7 +26,8 @@ use Rattle.entries.specs.declared.place.Place.{Place}
 use Rattle.entries.specs.declared.place.Sizes.{Sizes}
 use Rattle.entries.specs.Places.{Moved, Measured}
 use Rattle.entries.specs.Sorted.{ComparedAs}
-use Rattle.std.specs.Prelude.{Option as Maybe, Some, None}
+use Rattle.std.specs.Prelude.{Option, Some, None}
+use Rattle.std.proofs.lemmas.Option.{none-some, same_Some}
 use Rattle.search.specs.declared.span.Extent.{Extent}
 use Rattle.search.specs.declared.span.Stop.{Stop}
 use Rattle.search.specs.declared.span.Stop.TheVariants.{Here, Above, End}
@@ -36,18 +37,18 @@ use Rattle.search.proofs.Entries.{bytes-key, along-entry, span-along}
 
 -- ---- Answers
 
-pub answer-found : {img : List ℕ} {o : Option (List ℕ)} {x : Extent} (v : List ℕ) → o ≡ some v → BytesAt img x.at x.length v → Answered img o (Some x)
+pub answer-found : {img : List ℕ} {o : TextOption (List ℕ)} {x : Extent} (v : List ℕ) → o ≡ some v → BytesAt img x.at x.length v → Answered img o (Some x)
 answer-found {img} {o} {x} v e b =
     record {
-      found = λ y q. (v, e, let same : x ≡ y = cc in subst (λ (i : Extent). BytesAt img i.at i.length v) same b);
-      missing = λ q. absurd (let z : ◌≡◌ {A = ℕ} 0 1 = cc in omega arith);
+      found = λ y q. (v, e, subst (λ (i : Extent). BytesAt img i.at i.length v) (same_Some x y q) b);
+      missing = λ q. absurd (none-some x (sym q));
     }
 
-pub answer-none : {img : List ℕ} {o : Option (List ℕ)} → o ≡ none → Answered img o None
-answer-none e = record { found = λ y q. absurd (let z : ◌≡◌ {A = ℕ} 0 1 = cc in omega arith); missing = λ q. e }
+pub answer-none : {img : List ℕ} {o : TextOption (List ℕ)} → o ≡ none → Answered img o None
+answer-none e = record { found = λ y q. absurd (none-some y q); missing = λ q. e }
 
-pub answer-as : {img : List ℕ} {o u : Option (List ℕ)} {r : Maybe Extent} → u ≡ o → Answered img o r → Answered img u r
-answer-as {img} {r = r} e a = subst (λ (x : Option (List ℕ)). Answered img x r) (sym e) a
+pub answer-as : {img : List ℕ} {o u : TextOption (List ℕ)} {r : Option Extent} → u ≡ o → Answered img o r → Answered img u r
+answer-as {img} {r = r} e a = subst (λ (x : TextOption (List ℕ)). Answered img x r) (sym e) a
 
 stop-here : {img : List ℕ} {r : KeyRule} {k : List ℕ} {es : List Entry} {g : Sizes} {left : ℕ} → Met img r k es g left → Stopped img r k es (Here g left)
 stop-here {img} {r} {k} {es} {g} {left} m =

@@ -19,7 +19,7 @@ use Rattle.laws.proofs.Targets.{Target, target_is, find_at}
 use Rattle.pages.specs.Places.{Inside}
 use Rattle.order.specs.declared.sort.Sort.{Sort}
 use Rattle.entries.specs.Places.{IsPage}
-use Rattle.std.specs.Prelude.{Option as Maybe, Some}
+use Rattle.std.specs.Prelude.{Option, Some}
 use Rattle.search.specs.declared.span.Extent.{Extent}
 use Rattle.search.specs.declared.table.TableRef.{TableRef}
 use Rattle.search.specs.Spans.{Borne, SpanOn, SpanBy, FilledBy, EntryThere, Answered, FoundOn, KeyOf}
@@ -152,6 +152,6 @@ module _ {img : List ℕ} {d : TableRef} (x : ReadingBy img d) (k : List ℕ) (p
       → F x.of.rule (span_at x.of.table (place x.of k)).entries
   said-target = said_at x.of (place x.of k) (at_target x.of k).place page (h.is x) x.by
 
-  pub find-in : (a : Maybe Extent) → FoundOn img page d.sort k a → Answered img (find k (entries_of x.of.table)) a
+  pub find-in : (a : Option Extent) → FoundOn img page d.sort k a → Answered img (find k (entries_of x.of.table)) a
   find-in a f =
       answer-as (find_at x.of.rule (ordered x.of) k x.of.table (place x.of k) (at_target x.of k)) (said-target (λ r es. Answered img (find k es) a) f.is)

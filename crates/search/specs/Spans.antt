@@ -1,7 +1,7 @@
 -- A span's entries as the code reads them: from place to place, in step with the list.
 use Rattle.std.specs.Prelude.{ℕ, ◌+◌, ◌*◌, ◌≤◌, ◌<◌, ◌≡◌, Bool, not, List, [], ◌∷◌, ◌++◌, length, take, drop, T}
-use Rattle.std.specs.Prelude.{Option as Maybe, Some, None}
-use Rattle.std.proofs.Math.Option.{Option, none, some}
+use Rattle.std.specs.Prelude.{Option, Some, None}
+use Rattle.std.proofs.Math.Option.{Option as TextOption, none, some}
 use Rattle.blockfile.specs.Bytes.{pg, be16, Every}
 use Rattle.blockfile.specs.Layout.{Entry, entries_end, reached}
 use Rattle.blockfile.specs.Order.{KeyRule, Rising, find, above}
@@ -94,7 +94,7 @@ pub record EntryAt (img : List ℕ) (g : Sizes) (e : Entry) (more : List Entry) 
 -- ---- Answers
 
 -- r says what the option is: where its bytes are and how many, or that there are none
-pub record Answered (img : List ℕ) (o : Option (List ℕ)) (r : Maybe Extent) : Type 0 where
+pub record Answered (img : List ℕ) (o : TextOption (List ℕ)) (r : Option Extent) : Type 0 where
   pub found : (e : Extent) → r ≡ Some e → (v : List ℕ) × (o ≡ some v) × BytesAt img e.at e.length v
   pub missing : r ≡ None → o ≡ none
 
@@ -143,10 +143,10 @@ pub record Stopped (img : List ℕ) (r : KeyRule) (k : List ℕ) (es : List Entr
 pub record StoppedOn (img : List ℕ) (page : ℕ) (s : Sort) (k : List ℕ) (r : Stop) : Type 0 where
   pub is : (x : SpanBy img page s) → Stopped img x.on.rule k x.on.linked.span.entries r
 
-pub record FoundOn (img : List ℕ) (page : ℕ) (s : Sort) (k : List ℕ) (r : Maybe Extent) : Type 0 where
+pub record FoundOn (img : List ℕ) (page : ℕ) (s : Sort) (k : List ℕ) (r : Option Extent) : Type 0 where
   pub is : (x : SpanBy img page s) → Answered img (find k x.on.linked.span.entries) r
 
-pub record AboveOn (img : List ℕ) (page : ℕ) (s : Sort) (k : List ℕ) (r : Maybe Extent) : Type 0 where
+pub record AboveOn (img : List ℕ) (page : ℕ) (s : Sort) (k : List ℕ) (r : Option Extent) : Type 0 where
   pub is : (x : SpanBy img page s) → Answered img (above x.on.rule k x.on.linked.span.entries) r
 
 pub record OverOn (img : List ℕ) (page : ℕ) (b : Bound) (k : List ℕ) (r : Bool) : Type 0 where

@@ -1,16 +1,19 @@
+use Rattle.std.proofs.lemmas.Result.{err_from_is_err_and}
 use Rattle.change.proofs.Settles.{settleable, settled}
 use Rattle.change.proofs.Removes.{remove-refused, remove-ready, remove-tried}
 use Rattle.change.proofs.removing.remove_entry.Goals as goal
 
-pub remove-applied-requires : goal.remove-applied-requires
-remove-applied-requires c = remove-ready (record { sorts = c.sort_of-sort.ensures; is = c.is_key.ensures }) c.requires c.named_table.ensures _ c.in-Found.is
+pub returns-in_err-root : goal.returns-in_err-root
+returns-in_err-root c =
+    let p = err_from_is_err_and c.from_residual.result c.from_residual.ensures.1 in
+    rw (p.1, p.2) (remove-refused (record { sorts = c.sort_of-sort.ensures; is = c.is_key.ensures }) c.requires c.named_table.ensures _ c.in_err-root.was)
+
+pub remove-left-requires : goal.remove-left-requires
+remove-left-requires c = remove-ready (record { sorts = c.sort_of-sort.ensures; is = c.is_key.ensures }) c.requires c.named_table.ensures _ c.in_ok-root.was
 
 pub settle-requires : goal.settle-requires
-settle-requires c = settleable c.requires.well (remove-tried (record { sorts = c.sort_of-sort.ensures; is = c.is_key.ensures }) c.requires c.named_table.ensures _ c.in-Found.is c.remove-applied.ensures)
+settle-requires c = settleable c.requires.well (remove-tried (record { sorts = c.sort_of-sort.ensures; is = c.is_key.ensures }) c.requires c.named_table.ensures _ c.in_ok-root.was c.remove-left.ensures)
 
-pub returns-in-Refused : goal.returns-in-Refused
-returns-in-Refused c = remove-refused (record { sorts = c.sort_of-sort.ensures; is = c.is_key.ensures }) c.requires c.named_table.ensures _ c.in-Refused.is
-
-pub returns-in-Found : goal.returns-in-Found
-returns-in-Found c =
-    settled c.requires.well (remove-tried (record { sorts = c.sort_of-sort.ensures; is = c.is_key.ensures }) c.requires c.named_table.ensures _ c.in-Found.is c.remove-applied.ensures) c.settle.ensures
+pub returns : goal.returns
+returns c =
+    settled c.requires.well (remove-tried (record { sorts = c.sort_of-sort.ensures; is = c.is_key.ensures }) c.requires c.named_table.ensures _ c.in_ok-root.was c.remove-left.ensures) c.settle.ensures

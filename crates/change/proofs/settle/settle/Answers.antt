@@ -6,8 +6,8 @@ keep_count-requires c =
     let p = c.requires in
     (p.inside, p.few _ c.in-Some.is)
 
-pub returns-in-None : goal.returns-in-None
-returns-in-None c = undone _ _ _ c.in-None.is
+pub returns-in_default : goal.returns-in_default
+returns-in_default c = undone _ _ _ c.in_default.is
 
-pub returns-in-Some : goal.returns-in-Some
-returns-in-Some c = counted _ _ _ _ c.in-Some.is _ c.keep_count.ensures
+pub returns : goal.returns
+returns c = counted _ _ _ _ c.in-Some.is _ c.keep_count.ensures
