@@ -1,7 +1,7 @@
 use Rattle.std.proofs.lemmas.Result.{err_from_is_err_and}
 use Rattle.change.proofs.Settles.{settleable, settled}
 use Rattle.change.proofs.Puts.{put_refused, put-ready, put-tried}
-use Rattle.change.proofs.putting.put_entry.Goals as goal
+use Rattle.change.proofs.putting.PutRequest.make.Goals as goal
 
 pub returns-in_err-root : goal.returns-in_err-root
 returns-in_err-root c =

@@ -1,7 +1,7 @@
 use mathlib.Core.Path.{sym, ◌∙◌}
 use Rattle.change.proofs.Settles.{settleable, settled}
 use Rattle.change.proofs.Creates.{name-refused, table-exists, create-ready, create-tried}
-use Rattle.change.proofs.creating.create_table.Goals as goal
+use Rattle.change.proofs.creating.CreateRequest.make.Goals as goal
 
 pub returns-then-not-is_name : goal.returns-then-not-is_name
 returns-then-not-is_name c = name-refused c.requires _ (sym c.is_name.ensures ∙ c.if-not-is_name.true)
