@@ -13,7 +13,7 @@ pub mod removing;
 pub mod settle;
 
 // What a call that writes asks for: a type for each of the calls, with the call's name, key and value as far as it has them.
-pub trait Request {
+pub trait Request: Copy {
     // the call, as the text has it
     ghost op: { Self → Op };
 

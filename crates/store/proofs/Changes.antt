@@ -6,8 +6,9 @@ use mathlib.Core.List.{List, [], ◌++◌}
 use lib.ListN.{length, take, drop, length-append}
 use lib.Seq.{drop_at}
 use lib.Seq.{length-take-le}
+use Rattle.std.specs.Prelude.{Result}
 use Rattle.blockfile.specs.declared.Counts.{Counts}
-use Rattle.blockfile.specs.declared.Wrote.{Wrote}
+use Rattle.blockfile.specs.declared.Refusal.{Refusal}
 use Rattle.blockfile.specs.Refusals.{Op}
 use Rattle.blockfile.specs.Calls.{cleared, wrote_reply, accepted, Keeps}
 use Rattle.laws.proofs.Determined.{determined}
@@ -32,7 +33,7 @@ module _ {img s mid : List ℕ} {c : Counts} (o : Opening img s c mid) where
   pub still-enough : (left : List ℕ) → length left ≡ length img → length img ≤ length (left ++ drop (length img) mid)
   still-enough left long = omega (arith, length-append left (drop (length img) mid))
 
-  pub change-kept : (op : Op) (r : Wrote) (new : List ℕ) → Changed op img r new
+  pub change-kept : (op : Op) (r : Result (Unit {0}) Refusal) (new : List ℕ) → Changed op img r new
       → (left out : List ℕ) → length left ≡ length img → out ≡ cleared (length img) (left ++ drop (length img) mid)
       → Keeps op img s [] (wrote_reply r) new out []
   change-kept op r new h left out long clear =
@@ -47,7 +48,7 @@ module _ {img s mid : List ℕ} {c : Counts} (o : Opening img s c mid) where
 
 -- ---- The promise determines the numbers of the answer and every byte of image and scratch
 
-pub change-determined : (op : Op) (img s : List ℕ) (r q : Wrote) (new new₂ t u : List ℕ)
+pub change-determined : (op : Op) (img s : List ℕ) (r q : Result (Unit {0}) Refusal) (new new₂ t u : List ℕ)
     → Keeps op img s [] (wrote_reply r) new t [] → Keeps op img s [] (wrote_reply q) new₂ u []
     → (wrote_reply r ≡ wrote_reply q) × (new ≡ new₂) × (t ≡ u)
 change-determined op img s r q new new₂ t u k h =

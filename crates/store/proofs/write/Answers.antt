@@ -1,27 +1,27 @@
 use native.Mathlib.Omega.{arith}
-use mathlib.Core.Path.{sym, ◌∙◌}
+use mathlib.Core.Path.{◌∙◌}
+use Rattle.std.proofs.lemmas.Result.{err_from_is_err_and}
 use Rattle.refusals.proofs.Opens.{stops, goes_on}
 use Rattle.store.proofs.Changes.{lent-enough, lent-long, lending, still-enough, change-kept}
 use Rattle.store.proofs.write.Goals as goal
 
-pub slice_bounds-change-end : goal.slice_bounds-change-end
-slice_bounds-change-end c = lent-enough (goes_on _ _ _ _ c.«open».ensures _ c.in-Accepted.is)
+pub returns-in_err-counts : goal.returns-in_err-counts
+returns-in_err-counts g c =
+    let p = err_from_is_err_and c.from_residual.result c.from_residual.ensures.1 in
+    rw (p.1, p.2) (stops _ _ _ _ c.«open».ensures _ c.in_err-counts.was _ _)
 
-pub slice_bounds-change-end-in-Accepted : goal.slice_bounds-change-end-in-Accepted
-slice_bounds-change-end-in-Accepted c = sym (lent-long (goes_on _ _ _ _ c.«open».ensures _ c.in-Accepted.is))
+pub slice_bounds-make-end : goal.slice_bounds-make-end
+slice_bounds-make-end g c = lent-enough (goes_on _ _ _ _ c.«open».ensures _ c.in_ok-counts.was)
 
-pub change-wrote-requires : goal.change-wrote-requires
-change-wrote-requires c = lending (goes_on _ _ _ _ c.«open».ensures _ c.in-Accepted.is)
+pub make-done-requires : goal.make-done-requires
+make-done-requires g c = lending (goes_on _ _ _ _ c.«open».ensures _ c.in_ok-counts.was)
 
 pub clear-requires : goal.clear-requires
-clear-requires c =
-    let o = (goes_on _ _ _ _ c.«open».ensures _ c.in-Accepted.is) in
-    omega (arith, still-enough o c.change-wrote.new.scratch (c.change-wrote.auto.scratch ∙ lent-long o))
+clear-requires g c =
+    let o = goes_on _ _ _ _ c.«open».ensures _ c.in_ok-counts.was in
+    omega (arith, still-enough o c.make-done.new.scratch (c.make-done.auto.scratch ∙ lent-long o))
 
-pub returns-in-Refused : goal.returns-in-Refused
-returns-in-Refused c = stops _ _ _ _ c.«open».ensures c.in-Refused.why c.in-Refused.is _ _
-
-pub returns-in-Accepted : goal.returns-in-Accepted
-returns-in-Accepted c =
-    let o = (goes_on _ _ _ _ c.«open».ensures _ c.in-Accepted.is) in
-    change-kept o _ _ _ c.change-wrote.ensures c.change-wrote.new.scratch _ (c.change-wrote.auto.scratch ∙ lent-long o) c.clear.ensures
+pub returns : goal.returns
+returns g c =
+    let o = goes_on _ _ _ _ c.«open».ensures _ c.in_ok-counts.was in
+    change-kept o _ _ _ c.make-done.ensures c.make-done.new.scratch _ (c.make-done.auto.scratch ∙ lent-long o) c.clear.ensures
