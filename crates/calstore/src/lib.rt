@@ -1,12 +1,13 @@
 // The calls for C and Rust, as include/calstore.h declares them.
 #![tactic(auto)]
 
-ghost use Rattle.std.specs.Prelude.{[]};
+ghost use Rattle.std.specs.Prelude.{[], Ok};
 ghost use Rattle.blockfile.specs.Refusals.{check, get, next, put, remove, create, plain, refusal};
 ghost use Rattle.blockfile.specs.Calls.{checked_reply, got_reply, wrote_reply};
 ghost use Rattle.calstore.specs.Answers.{Bears, Answers};
 
-use blockfile::{Checked, Got, Refusal, Wrote};
+use blockfile::{Counts, Refusal};
+use store::Numbers;
 
 // The numbers of a result; those that an answer has not are 0.
 #[repr(C)]
@@ -36,18 +37,20 @@ fn plain(number: u32, length: usize) -> Answer
     }
 }
 
-fn refused(why: Refusal) -> Answer
-    ensures { Bears (refusal why) result }
-{
-    let numbers = store::numbers_of(why);
-    plain(numbers.0, numbers.1)
+impl From<Refusal> for Answer {
+    ghost from_gives = { λ why a. Bears (refusal why) a };
+
+    fn from(why: Refusal) -> Answer {
+        let Numbers { number, length } = Numbers::from(why);
+        plain(number, length)
+    }
 }
 
-fn checked(found: Checked) -> Answer
-    ensures { Bears (checked_reply found) result }
-{
-    match found {
-        Checked::Sound(counts) => Answer {
+impl From<Counts> for Answer {
+    ghost from_gives = { λ counts a. Bears (checked_reply (Ok counts)) a };
+
+    fn from(counts: Counts) -> Answer {
+        Answer {
             number: 0,
             page: 0,
             length: 0,
@@ -55,26 +58,43 @@ fn checked(found: Checked) -> Answer
             tables: counts.tables as u64,
             keys: counts.keys as u64,
             free: counts.free as u64,
-        },
-        Checked::Refused(why) => refused(why),
+        }
     }
 }
 
-fn got(found: Got) -> Answer
-    ensures { Bears (got_reply found) result }
-{
-    match found {
-        Got::Found(length) => plain(0, length),
-        Got::Refused(why) => refused(why),
+// What check answers.
+impl From<Result<Counts, Refusal>> for Answer {
+    ghost from_gives = { λ found a. Bears (checked_reply found) a };
+
+    fn from(found: Result<Counts, Refusal>) -> Answer {
+        match found {
+            Ok(counts) => Answer::from(counts),
+            Err(why) => Answer::from(why),
+        }
     }
 }
 
-fn wrote(done: Wrote) -> Answer
-    ensures { Bears (wrote_reply done) result }
-{
-    match done {
-        Wrote::Done => plain(0, 0),
-        Wrote::Refused(why) => refused(why),
+// What get and next answer.
+impl From<Result<usize, Refusal>> for Answer {
+    ghost from_gives = { λ found a. Bears (got_reply found) a };
+
+    fn from(found: Result<usize, Refusal>) -> Answer {
+        match found {
+            Ok(length) => plain(0, length),
+            Err(why) => Answer::from(why),
+        }
+    }
+}
+
+// What put, remove and create answer.
+impl From<Result<(), Refusal>> for Answer {
+    ghost from_gives = { λ done a. Bears (wrote_reply done) a };
+
+    fn from(done: Result<(), Refusal>) -> Answer {
+        match done {
+            Ok(()) => plain(0, 0),
+            Err(why) => Answer::from(why),
+        }
     }
 }
 
@@ -82,7 +102,7 @@ fn wrote(done: Wrote) -> Answer
 pub extern "C" fn calstore_check(image: &[u8], scratch: &mut [u8]) -> Answer
     ensures { Answers check image.now scratch.old [] result image.now scratch.new [] }
 {
-    checked(store::check(image, scratch))
+    Answer::from(store::check(image, scratch))
 }
 
 #[unsafe(no_mangle)]
@@ -95,7 +115,7 @@ pub extern "C" fn calstore_get(
 ) -> Answer
     ensures { Answers (get name.now key.now) image.now scratch.old answer.old result image.now scratch.new answer.new }
 {
-    got(store::get(image, scratch, name, key, answer))
+    Answer::from(store::get(image, scratch, name, key, answer))
 }
 
 #[unsafe(no_mangle)]
@@ -108,7 +128,7 @@ pub extern "C" fn calstore_next(
 ) -> Answer
     ensures { Answers (next name.now key.now) image.now scratch.old answer.old result image.now scratch.new answer.new }
 {
-    got(store::next(image, scratch, name, key, answer))
+    Answer::from(store::next(image, scratch, name, key, answer))
 }
 
 #[unsafe(no_mangle)]
@@ -121,7 +141,7 @@ pub extern "C" fn calstore_put(
 ) -> Answer
     ensures { Answers (put name.now key.now value.now) image.old scratch.old [] result image.new scratch.new [] }
 {
-    wrote(store::put(image, scratch, name, key, value))
+    Answer::from(store::put(image, scratch, name, key, value))
 }
 
 #[unsafe(no_mangle)]
@@ -133,12 +153,12 @@ pub extern "C" fn calstore_remove(
 ) -> Answer
     ensures { Answers (remove name.now key.now) image.old scratch.old [] result image.new scratch.new [] }
 {
-    wrote(store::remove(image, scratch, name, key))
+    Answer::from(store::remove(image, scratch, name, key))
 }
 
 #[unsafe(no_mangle)]
 pub extern "C" fn calstore_create(image: &mut [u8], scratch: &mut [u8], name: &[u8]) -> Answer
     ensures { Answers (create name.now) image.old scratch.old [] result image.new scratch.new [] }
 {
-    wrote(store::create(image, scratch, name))
+    Answer::from(store::create(image, scratch, name))
 }

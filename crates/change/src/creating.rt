@@ -17,12 +17,7 @@ pub struct Create<'a> {
 impl<'a> Request for Create<'a> {
     ghost op = { λ r. create r.name.now };
 
-    fn make(
-        self,
-        image: &mut [u8],
-        scratch: &mut [u8],
-        free: usize,
-    ) -> Result<(), Refusal> {
+    fn make(self, image: &mut [u8], scratch: &mut [u8], free: usize) -> Result<(), Refusal> {
         let name = self.name;
         if !is_name(name) {
             return Err(Refusal::NameOrKey);

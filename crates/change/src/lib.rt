@@ -19,12 +19,7 @@ pub trait Request: Copy {
 
     // Makes the change that is asked for. `free` is the number of free pages; of the scratch, which is as long as the image, nothing
     // is kept.
-    fn make(
-        self,
-        image: &mut [u8],
-        scratch: &mut [u8],
-        free: usize,
-    ) -> Result<(), Refusal>
+    fn make(self, image: &mut [u8], scratch: &mut [u8], free: usize) -> Result<(), Refusal>
         requires { Lending image.old scratch.old free }
         ensures { Changed (op self) image.old result image.new };
 }

@@ -21,12 +21,7 @@ pub struct Put<'a> {
 impl<'a> Request for Put<'a> {
     ghost op = { λ r. put r.name.now r.key.now r.value.now };
 
-    fn make(
-        self,
-        image: &mut [u8],
-        scratch: &mut [u8],
-        free: usize,
-    ) -> Result<(), Refusal> {
+    fn make(self, image: &mut [u8], scratch: &mut [u8], free: usize) -> Result<(), Refusal> {
         let Put { name, key, value } = self;
         let sort = sort_of(name);
         let root = named_table(image, name, is_key(sort, key), is_value(value))?;

@@ -20,12 +20,7 @@ pub struct Remove<'a> {
 impl<'a> Request for Remove<'a> {
     ghost op = { λ r. remove r.name.now r.key.now };
 
-    fn make(
-        self,
-        image: &mut [u8],
-        scratch: &mut [u8],
-        free: usize,
-    ) -> Result<(), Refusal> {
+    fn make(self, image: &mut [u8], scratch: &mut [u8], free: usize) -> Result<(), Refusal> {
         let Remove { name, key } = self;
         let sort = sort_of(name);
         let root = named_table(image, name, is_key(sort, key), true)?;

@@ -1,12 +1,10 @@
 -- Handing over the answer: one law for each way out.
 use Prim.Native.Nat.{ℕ, ◌≤◌, ◌<◌}
-use native.Mathlib.Omega.{arith}
-use mathlib.Core.Path.{◌≡◌, refl, ap}
+use mathlib.Core.Path.{◌≡◌, refl}
 use mathlib.Core.List.{List}
 use mathlib.Core.Option.{Option as TextOption}
 use borrow.Author.Tests.{lt-ltb, le-ltb}
 use lib.ListN.{length}
-use Rattle.blockfile.specs.declared.Refusal.{Refusal}
 use Rattle.blockfile.specs.declared.Refusal.TheVariants.{NoKey, BufferShort}
 use Rattle.std.specs.Prelude.{Option, Some, None, Ok, Err}
 use Rattle.entries.specs.Places.{Enough, Copied}

@@ -9,11 +9,7 @@ use reader::copy_from;
 use search::span::Extent;
 
 // Copies the bytes found to the start of the answer buffer, and answers how many they are.
-pub fn hand_over(
-    image: &[u8],
-    found: Option<Extent>,
-    answer: &mut [u8],
-) -> Result<usize, Refusal>
+pub fn hand_over(image: &[u8], found: Option<Extent>, answer: &mut [u8]) -> Result<usize, Refusal>
     requires { (o : Option (List ℕ)) × Answered image.now o found }
     ensures { (o : Option (List ℕ)) → Answered image.now o found → Hands o answer.old result answer.new }
 {

@@ -24,7 +24,12 @@ pub fn named_table(image: &[u8], name: &[u8], legal: bool, short: bool) -> Resul
 
 // Verifies the image and finds the table, for a call with no value. The scratch is cleared on every way out, since nothing after
 // this needs it.
-pub fn open_table(image: &[u8], scratch: &mut [u8], name: &[u8], legal: bool) -> Result<usize, Refusal>
+pub fn open_table(
+    image: &[u8],
+    scratch: &mut [u8],
+    name: &[u8],
+    legal: bool,
+) -> Result<usize, Refusal>
     ensures { Enters image.now scratch.old name.now legal result scratch.new }
 {
     open(image, scratch)?;

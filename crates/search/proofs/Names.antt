@@ -12,7 +12,6 @@ use Rattle.blockfile.specs.Order.{find}
 use Rattle.blockfile.specs.WellFormed.{WellFormed}
 use Rattle.laws.proofs.Numbers.{be32-agree, be32-word32, length-word32}
 use Rattle.laws.proofs.Middle.{find-under}
-use Rattle.entries.specs.declared.place.Place.{Place}
 use Rattle.entries.specs.Places.{Enough, Numbered}
 use Rattle.std.specs.Prelude.{Option, Some, None}
 use Rattle.std.proofs.lemmas.Option.{none-some, same_Some}

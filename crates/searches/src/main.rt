@@ -3,52 +3,28 @@
 // there were, how many searches by each of the two, and for how many of these the spans differ.
 #![tactic(auto)]
 
-ghost use Rattle.std.specs.Prelude.{◌≤◌, length, IfOk};
-
-use compare::{Tally, compare_tables};
-use refusals::open::{Opened, open};
+use compare::compare_tables;
+use refusals::open::open;
 use std::io::{self, Print, Read};
 
 mod compare;
 
-// Reads until the buffer is full or the input ends, and answers how many bytes it read.
-fn read_full<R: Read>(reader: &mut R, buffer: &mut [u8]) -> io::Result<usize>
-    ensures { IfOk result (λ n. n ≤ length buffer.new) }
-{
-    let mut done = 0;
-    while done < buffer.len() {
-        let n = reader.read(&mut buffer[done..])?;
-        if n == 0 {
-            break;
-        }
-        done += n;
+fn main(rt: HostRuntime) -> io::Result<()> {
+    // one byte more than an image may have
+    let mut image = Vec::new(rt.alloc());
+    rt.reader().take(32769).read_to_end(&mut image)?;
+    if 32768 < image.len() {
+        return println!(rt; "too long");
     }
-    Ok(done)
-}
-
-fn write_tally<R: Print>(rt: &R, tally: Tally) -> io::Result<()> {
+    let mut scratch = [0u8; 32768];
+    let Ok(_) = open(&image, &mut scratch) else {
+        return println!(rt; "refused");
+    };
+    let mut name = [0u8; 65536];
+    let mut key = [0u8; 65536];
+    let tally = compare_tables(&image, &mut name, &mut key);
     println!(rt;
         "keys {} searches {} different {}",
         tally.keys, tally.searches, tally.different
     )
-}
-
-fn compare_card<R: Print>(rt: &R, image: &[u8]) -> io::Result<()> {
-    let mut scratch = [0u8; 32768];
-    let mut name = [0u8; 65536];
-    let mut key = [0u8; 65536];
-    match open(image, &mut scratch) {
-        Opened::Refused(_) => println!(rt; "refused"),
-        Opened::Accepted(_) => write_tally(rt, compare_tables(image, &mut name, &mut key)),
-    }
-}
-
-fn main(rt: HostRuntime) -> io::Result<()> {
-    // one byte more than an image may have
-    let mut input = [0u8; 32769];
-    let n = read_full(&mut rt.reader(), &mut input)?;
-    if 32768 < n {
-        return println!(rt; "too long");
-    }
-    compare_card(&rt, &input[..n])
 }

@@ -6,8 +6,8 @@ use Rattle.refusals.proofs.table.named_table.Goals.{then-not-legal-via-then-not-
 pub returns-then-not-legal : goal.returns-then-not-legal
 returns-then-not-legal c =
     elim c.then-not-legal.branch [
-      then-not-legal-via-then-not-legal w ↦ bad-key _ _ _ _ w.if-not-legal.true
-    | then-not-legal-via-else-not-legal+then-not-is_name w ↦ bad-name _ _ _ _ (sym w.is_name.ensures ∙ w.if-not-is_name.true)
+      | then-not-legal-via-then-not-legal w ↦ bad-key _ _ _ _ w.if-not-legal.true
+      | then-not-legal-via-else-not-legal+then-not-is_name w ↦ bad-name _ _ _ _ (sym w.is_name.ensures ∙ w.if-not-is_name.true)
     ]
 
 pub returns-then-not-short : goal.returns-then-not-short

@@ -10,4 +10,4 @@ pub hand_over-requires : goal.hand_over-requires
 hand_over-requires c = (_, c.next_key-found.ensures.is c.requires.0)
 
 pub returns : goal.returns
-returns c = record { most = hands-fit _ _ _ _ (c.hand_over.ensures _ (c.next_key-found.ensures.is c.requires.0)) }
+returns c = hands-fit _ _ _ _ (c.hand_over.ensures _ (c.next_key-found.ensures.is c.requires.0))
