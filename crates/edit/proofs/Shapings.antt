@@ -2,9 +2,11 @@
 use Prim.Native.Nat.{ℕ, ◌+◌, ◌-◌, ◌/◌, ◌≤◌, ◌<◌, min}
 use native.Mathlib.Omega.{arith}
 use mathlib.Core.Path.{◌≡◌, refl, ap, ap₂, sym, ◌∙◌, subst}
+use mathlib.Core.Bool.{false}
 use mathlib.Core.List.{List, [], ◌∷◌, ◌++◌, append-nil}
 use lib.ListN.{length, take, drop, length-take, length-drop, drop_of_length-le}
 use lib.Seq.{take-length}
+use Rattle.std.specs.Int.{from_bool}
 use Rattle.blockfile.specs.Bytes.{pg, be16}
 use Rattle.blockfile.specs.Layout.{Entry, Table, columns, entries_from, entries_end, reached}
 use Rattle.blockfile.specs.Put.{Parts, parts, new_height, span_wanted}
@@ -90,35 +92,39 @@ module _ (t : Table) (es : List Entry) (x : Shape) (many : x.entries ≡ length 
       })
 
 module _ {img : List ℕ} {page : ℕ} {c : Change} {both : ℕ} {l : SkipList} {size : ℕ} (r : ShapeReady img page c both l size) where
+  -- the code's sum
+  pub size-whole : (size < 65536) × (from_bool c.drops ≤ size + from_bool c.adds)
+  size-whole = (omega (arith, r.many, r.fits.few), omega (arith, r.many, r.fits.inside))
+
   -- how many entries there are after the change
-  entries-are : (y : SpanOn img page) → Fits c y.linked.span.entries → (e : Entry) → size + c.adds - c.drops ≡ length (spliced c e y.linked.span.entries)
+  entries-are : (y : SpanOn img page) → Fits c y.linked.span.entries → (e : Entry) → size + from_bool c.adds - from_bool c.drops ≡ length (spliced c e y.linked.span.entries)
   entries-are y f e = omega (arith, r.many, span-size r.span, span-size y, length-spliced c e y.linked.span.entries f)
 
-  pub measurable : (half : ℕ) → half ≤ size + c.adds - c.drops → Measurable img page c half
-  measurable half h = record { span = r.span; fits = r.fits; has = omega (arith, r.many, r.fits.inside) }
+  pub measurable : (half n : ℕ) → n ≡ size + from_bool c.adds - from_bool c.drops → half ≤ n → Measurable img page c half
+  measurable half n q h = record { span = r.span; fits = r.fits; has = omega (arith, r.many, r.fits.inside) }
 
-  module _ (ends : Ends) (half : ℕ) (m : MeasuredOn img page c both half ends) where
-    pub shape-for-split : (height : ℕ) → l.most < size + c.adds - c.drops → half ≡ (size + c.adds - c.drops + 1) / 2 → height ≡ new_height (l.spans + 1) l.max
-        → ShapeFor img page c both l (record { entries = size + c.adds - c.drops; half = half; stay = ends.stay; moved = ends.moved; height = height })
+  module _ (ends : Ends) (half : ℕ) (m : MeasuredOn img page c both half ends) (many : ℕ) (q : many ≡ size + from_bool c.adds - from_bool c.drops) where
+    pub shape-for-split : (height : ℕ) → l.most < many → half ≡ (many + 1) / 2 → height ≡ new_height (l.spans + 1) l.max
+        → ShapeFor img page c both l (record { entries = many; half = half; stay = ends.stay; moved = ends.moved; height = height })
     shape-for-split height b h k =
         record {
           stay = m.stay_near;
           moved = m.moved_near;
           is = λ y f t o e z.
-              let n : size + c.adds - c.drops ≡ length (spliced c e y.linked.span.entries) = entries-are y f e in
+              let n : many ≡ length (spliced c e y.linked.span.entries) = q ∙ entries-are y f e in
               let v : Halved c e y.linked.span.entries half ends = m.is y e z in
-              shape-split t (spliced c e y.linked.span.entries) _ n v.stay v.moved (omega (arith, o.most, n)) (h ∙ ap (λ (q : ℕ). (q + 1) / 2) n)
-              (k ∙ ap₂ (λ (q w : ℕ). new_height (q + 1) w) o.spans o.max);
+              shape-split t (spliced c e y.linked.span.entries) _ n v.stay v.moved (omega (arith, o.most, n)) (h ∙ ap (λ (p : ℕ). (p + 1) / 2) n)
+              (k ∙ ap₂ (λ (p w : ℕ). new_height (p + 1) w) o.spans o.max);
         }
 
-    pub shape-for-plain : size + c.adds - c.drops ≤ l.most → half ≡ size + c.adds - c.drops
+    pub shape-for-plain : many ≤ l.most → half ≡ many
         → ShapeFor img page c both l (record { entries = half; half = half; stay = ends.stay; moved = ends.moved; height = 0 })
     shape-for-plain b h =
         record {
           stay = m.stay_near;
           moved = m.moved_near;
           is = λ y f t o e z.
-              let n : half ≡ length (spliced c e y.linked.span.entries) = h ∙ entries-are y f e in
+              let n : half ≡ length (spliced c e y.linked.span.entries) = h ∙ q ∙ entries-are y f e in
               let v : Halved c e y.linked.span.entries half ends = m.is y e z in
               shape-plain t (spliced c e y.linked.span.entries) _ n v.stay v.moved (omega (arith, o.most, n, h)) refl refl;
         }
@@ -127,7 +133,7 @@ module _ {img : List ℕ} {page : ℕ} {c : Change} {both : ℕ} {l : SkipList} 
 
 -- no entry gives way and none comes
 abbrev pub no_change : ℕ → Change
-no_change n = record { index = n; drops = 0; adds = 0 }
+no_change n = record { index = n; drops = false; adds = false }
 
 no_change_lem : (e : Entry) (es : List Entry) (n : ℕ) → n ≡ length es → take n (spliced (no_change n) e es) ≡ es
 unfolding spliced
@@ -141,7 +147,7 @@ module _ {img : List ℕ} {page size : ℕ} (r : ContsReady img page size) where
   none-fits =
       record {
         span = r.span;
-        fits = record { drops = omega arith; adds = omega arith; inside = omega (arith, r.many); few = omega (arith, r.many, r.few) };
+        fits = record { inside = omega (arith, r.many); few = omega (arith, r.many, r.few) };
         has = omega (arith, r.many);
       }
 

@@ -3,7 +3,7 @@ ghost use Rattle.edit.specs.Shapes.{ContsReady, ContsCounted, ShapeReady, ShapeF
 
 use crate::fields::SkipList;
 use crate::height::tower_height;
-use stage::change::Change;
+use stage::change::{Change, size_after};
 use stage::measure::measure;
 
 // How many entries there are, and how many of them stay; where the streams of those that stay and of those that move end; the
@@ -32,8 +32,8 @@ pub fn count_conts(image: &[u8], page: usize, size: usize) -> usize
 {
     let none = Change {
         index: size,
-        drops: 0,
-        adds: 0,
+        drops: false,
+        adds: false,
     };
     let ends = measure(image, page, none, 0, size);
     (ends.stay + 1015) / 1016 - 1
@@ -51,7 +51,7 @@ pub fn shape_of(
     requires { ShapeReady image.now page change both list size }
     ensures { ShapeFor image.now page change both list result }
 {
-    let entries = size + change.adds - change.drops;
+    let entries = size_after(size, change);
     if list.most < entries {
         let half = (entries + 1) / 2;
         let ends = measure(image, page, change, both, half);

@@ -14,10 +14,7 @@ use stage::change::{Change, find_spot};
 fn goes(links: Links) -> bool
     ensures { Goes links result }
 {
-    if links.prev == 0 {
-        return false;
-    }
-    if links.size == 1 { true } else { false }
+    links.prev != 0 && links.size == 1
 }
 
 // Takes the entry at the index out of the span on `page` of the table with the skip-list page `root`. The others never reach further
@@ -28,8 +25,8 @@ fn leave(image: &mut [u8], scratch: &mut [u8], root: usize, page: usize, index: 
 {
     let change = Change {
         index,
-        drops: 1,
-        adds: 0,
+        drops: true,
+        adds: false,
     };
     let none = [0u8; 0];
     let base = image.len() / 1024;
@@ -53,16 +50,15 @@ pub fn remove(
     let path = descend(image, table, key, true);
     let page = find_from(image, table, path.pages[0] as usize, key);
     let sort = table.sort;
-    let spot = find_spot(image, page, sort, key);
-    if spot.there == 0 {
+    let Ok(index) = find_spot(image, page, sort, key) else {
         return None;
-    }
+    };
     let links = read_links(image, page);
     if goes(links) {
         let pages = path.pages;
         let left = free + unlink(image, table.root, page, links, &pages);
         return Some(left);
     }
-    let left = free + leave(image, scratch, table.root, page, spot.index);
+    let left = free + leave(image, scratch, table.root, page, index);
     Some(left)
 }

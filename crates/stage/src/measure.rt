@@ -4,7 +4,7 @@ ghost use Rattle.blockfile.specs.Layout.{lens_start};
 ghost use Rattle.stage.specs.Changes.{Going};
 ghost use Rattle.stage.specs.Parts.{far, EntryMeasured, PartMeasured, Measurable, MeasuredOn};
 
-use crate::change::{Change, Cursor, Next, next_entry, start};
+use crate::change::{Change, Cursor, Next, next_entry, size_after, start};
 use pages::read::get16;
 
 // Where a part of the new list ends in a stream of its own, and the cursor behind it.
@@ -78,7 +78,7 @@ pub fn measure(image: &[u8], page: usize, change: Change, both: usize, half: usi
     let size = get16(image, page, 18);
     let stay = measure_part(image, start(page), change, both, half);
     let middle = stay.after;
-    let rest = size + change.adds - change.drops - half;
+    let rest = size_after(size, change) - half;
     let moved = measure_part(image, middle, change, both, rest);
     Ends {
         stay: stay.end,
