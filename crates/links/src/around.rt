@@ -18,10 +18,8 @@ pub fn towers_before(path: &[u16; 252], head: usize, before: &mut [usize; 252])
     requires { Pages path.now × (length before.old ≡ 252) }
     ensures { Filled before.old 252 (λ l. page_or_head head (get_or path.now l 0)) before.new }
 {
-    let mut i = 0;
-    while i < 252 {
+    for i in 0..252 {
         before[i] = or_head(head, path[i] as usize);
-        i += 1;
     }
 }
 
@@ -32,10 +30,8 @@ pub fn towers_after(image: &[u8], root: usize, before: &[usize; 252], after: &mu
     ensures { AfterIn image.now root before.now after.new }
 {
     let height = get16(image, get32(image, root, 12), 10);
-    let mut i = 0;
-    while i < height {
+    for i in 0..height {
         after[i] = get32(image, before[i], 16 + 4 * i);
-        i += 1;
     }
 }
 
@@ -64,9 +60,7 @@ pub fn get_entries(image: &[u8], page: usize, height: usize, nexts: &mut [usize;
     requires { Inside image.now page 0 1024 × (height ≤ 252) × (length nexts.old ≡ 252) }
     ensures { Filled nexts.old height (λ l. be32 (pg image.now page) (16 + 4 * l)) nexts.new }
 {
-    let mut i = 0;
-    while i < height {
+    for i in 0..height {
         nexts[i] = get32(image, page, 16 + 4 * i);
-        i += 1;
     }
 }

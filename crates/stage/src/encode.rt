@@ -88,12 +88,10 @@ pub fn stage(
 {
     let mut cursor = from;
     let mut end = 12;
-    let mut i = 0;
-    while i < count {
+    for _i in 0..count {
         let part = stage_entry(image, cursor, change, key, value, end, stream);
         end = part.end;
         cursor = part.after;
-        i += 1;
     }
     cursor
 }

@@ -60,12 +60,10 @@ fn measure_part(image: &[u8], from: Cursor, change: Change, both: usize, count: 
 {
     let mut cursor = from;
     let mut end = 12;
-    let mut i = 0;
-    while i < count {
+    for _i in 0..count {
         let part = measure_entry(image, cursor, change, both, end);
         end = part.end;
         cursor = part.after;
-        i += 1;
     }
     Part { end, after: cursor }
 }
