@@ -6,7 +6,7 @@ use mathlib.Core.Bool.{false}
 use mathlib.Core.List.{List, [], ◌∷◌, ◌++◌, append-nil}
 use lib.ListN.{length, take, drop, length-take, length-drop, drop_of_length-le}
 use lib.Seq.{take-length}
-use Rattle.std.specs.Int.{from_bool}
+use Rattle.std.specs.Int.{from_bool, div_ceil}
 use Rattle.blockfile.specs.Bytes.{pg, be16}
 use Rattle.blockfile.specs.Layout.{Entry, Table, columns, entries_from, entries_end, reached}
 use Rattle.blockfile.specs.Put.{Parts, parts, new_height, span_wanted}
@@ -23,14 +23,18 @@ use Rattle.edit.specs.declared.shape.Shape.{Shape}
 use Rattle.edit.specs.declared.shape.Wants.{Wants}
 use Rattle.edit.specs.Shapes.{ContsReady, ContsCounted, ShapeOf, ShapeReady, ShapeFor, Shaped, NewPages, WantsFor}
 
+-- pages of 1016 bytes of a stream
+pub ceil : (n : ℕ) {r : ℕ} → r ≡ div_ceil n 1016 → r ≡ (n + 1015) / 1016
+ceil n e = omega (arith, e)
+
 -- where a stream ends says how many pages it reaches
 pages-reached : (n : ℕ) (es : List Entry) → n ≡ entries_end entries_from es → (n + 1015) / 1016 ≡ reached es
 unfolding reached
 pages-reached n es e = ap (λ (m : ℕ). (m + 1015) / 1016) e
 
 -- it reaches the span's own
-pub own-page : {x : Shape} → Shaped x → 1 ≤ (x.stay + 1015) / 1016
-own-page {x} s = omega (arith, s.shape.stay, entries-after entries_from s.parts.stay)
+pub own-page : {x : Shape} → Shaped x → {n : ℕ} → n ≡ div_ceil x.stay 1016 → 1 ≤ n
+own-page {x} s e = omega (arith, s.shape.stay, entries-after entries_from s.parts.stay, ceil x.stay e)
 
 -- entries that move have pages, and with none there are none
 moved-pages : (es : List Entry) → 1 ≤ length es → reached es ≡ span_wanted es
@@ -42,9 +46,9 @@ none-moved [] l = refl
 none-moved (e ∷ es) l = absurd (omega arith)
 
 module _ (x : Shape) where
-  pub new-some : x.half < x.entries → NewPages x ((x.moved + 1015) / 1016)
-  new-some l =
-      record { is = λ p s. pages-reached x.moved p.move s.moved ∙ moved-pages p.move (omega (arith, s.half, s.entries)) }
+  pub new-some : x.half < x.entries → {n : ℕ} → n ≡ div_ceil x.moved 1016 → NewPages x n
+  new-some l e =
+      record { is = λ p s. ceil x.moved e ∙ pages-reached x.moved p.move s.moved ∙ moved-pages p.move (omega (arith, s.half, s.entries)) }
 
   pub new_none : x.entries ≤ x.half → NewPages x 0
   new_none l = record { is = λ p s. none-moved p.move (omega (arith, s.half, s.entries)) }
@@ -158,8 +162,8 @@ module _ {img : List ℕ} {page size : ℕ} (r : ContsReady img page size) where
         (m.is y e refl).stay
         ∙ ap (entries_end entries_from) (no_change_lem e y.linked.span.entries size (omega (arith, r.many, span-size r.span, span-size y)))
 
-    pub one-reached : 1 ≤ (ends.stay + 1015) / 1016
-    one-reached = omega (arith, end_is r.span, entries-after entries_from r.span.linked.span.entries)
+    pub one-reached : {n : ℕ} → n ≡ div_ceil ends.stay 1016 → 1 ≤ n
+    one-reached e = omega (arith, ceil ends.stay e, end_is r.span, entries-after entries_from r.span.linked.span.entries)
 
-    pub conts-counted : ContsCounted img page ((ends.stay + 1015) / 1016 - 1)
-    conts-counted = record { is = λ y. omega (arith, pages-reached ends.stay y.linked.span.entries (end_is y), y.there.reach) }
+    pub conts-counted : {n : ℕ} → n ≡ div_ceil ends.stay 1016 → ContsCounted img page (n - 1)
+    conts-counted e = record { is = λ y. omega (arith, ceil ends.stay e, pages-reached ends.stay y.linked.span.entries (end_is y), y.there.reach) }

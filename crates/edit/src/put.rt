@@ -6,7 +6,7 @@ use crate::plan::make_plan;
 use crate::shape::count_conts;
 use search::path::descend;
 use search::table::{TableRef, find_from};
-use stage::change::{find_spot, put_change};
+use stage::change::{NewEntry, find_spot, put_change};
 
 // Puts the value under the key in the table; `free` pages are free. Answers how many are free after it; without room it is none,
 // and nothing changes. The scratch is as long as the image.
@@ -43,6 +43,7 @@ pub fn put(
         return None;
     }
     let pages = path.pages;
-    carry_out(image, scratch, plan, change, key, value, &pages);
+    let new = NewEntry { key, value };
+    carry_out(image, scratch, plan, change, new, &pages);
     Some(available - wanted)
 }

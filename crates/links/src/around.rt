@@ -35,24 +35,24 @@ pub fn towers_after(image: &[u8], root: usize, before: &[usize; 252], after: &mu
     }
 }
 
-// The page of the tower of the span on `page`, 0 if it has none, where the path has the last towers before that span: the next tower is
+// The page of the tower of the span on `page`, if it has one, where the path has the last towers before that span: the next tower is
 // the span's if it names the span. A path without levels is that of a table with no tower but the head.
-pub fn tower_of(image: &[u8], path: &[u16; 252], page: usize) -> usize
+pub fn tower_of(image: &[u8], path: &[u16; 252], page: usize) -> Option<usize>
     requires { Precedes image.now page path.now }
     ensures { TowerOn image.now page path.now result }
 {
     let lowest = path[0] as usize;
     if lowest == 0 {
-        return 0;
+        return None;
     }
     let next = get32(image, lowest, 16);
     if next == 0 {
-        return 0;
+        return None;
     }
     if get32(image, next, 12) != page {
-        return 0;
+        return None;
     }
-    next
+    Some(next)
 }
 
 // The first `height` entries of the tower on the page.

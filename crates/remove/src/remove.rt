@@ -8,7 +8,7 @@ use edit::fields::{Links, read_links};
 use edit::plan::make_plan;
 use search::path::descend;
 use search::table::{TableRef, find_from};
-use stage::change::{Change, find_spot};
+use stage::change::{Change, NewEntry, find_spot};
 
 // Whether a span goes with an entry of it: it is not the first, and it has no other.
 fn goes(links: Links) -> bool
@@ -29,9 +29,13 @@ fn leave(image: &mut [u8], scratch: &mut [u8], root: usize, page: usize, index: 
         adds: false,
     };
     let none = [0u8; 0];
+    let new = NewEntry {
+        key: &none,
+        value: &none,
+    };
     let base = image.len() / 1024;
     let plan = make_plan(image, root, page, change, 0, 0, base);
-    carry_flat(image, scratch, plan, change, &none, &none)
+    carry_flat(image, scratch, plan, change, new)
 }
 
 // Removes the key from the table; `free` pages are free. Answers how many are free after it; if the key is not there it is none, and

@@ -18,6 +18,13 @@ pub struct Change {
     pub adds: bool,
 }
 
+// The entry that comes.
+#[derive(Clone, Copy)]
+pub struct NewEntry<'a> {
+    pub key: &'a [u8],
+    pub value: &'a [u8],
+}
+
 // How many entries there are after the change, of `size` before it.
 pub fn size_after(size: usize, change: Change) -> usize
     requires { (size < 65536) × (from_bool change.drops ≤ size + from_bool change.adds) }
