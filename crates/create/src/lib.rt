@@ -10,7 +10,7 @@ use edit::shape::count_conts;
 use order::sort::Sort;
 use search::path::descend;
 use search::table::{METAINDEX, TableRef, find_from};
-use stage::change::{Change, find_spot};
+use stage::change::{Change, NewEntry, find_spot, put_change};
 use table::{new_table, write_table};
 
 pub mod table;
@@ -42,7 +42,11 @@ fn enter(
     let table = new_table(image, wanted - old);
     let mut value = [0u8; 4];
     set_number(&mut value, 0, table.root);
-    carry_out(image, scratch, plan, change, name, &value, path);
+    let new = NewEntry {
+        key: name,
+        value: &value,
+    };
+    carry_out(image, scratch, plan, change, new, path);
     write_table(image, table);
     Some(available - total)
 }
@@ -60,11 +64,7 @@ pub fn create(image: &mut [u8], scratch: &mut [u8], free: usize, name: &[u8]) ->
     let path = descend(image, names, name, false);
     let page = find_from(image, names, path.pages[0] as usize, name);
     let spot = find_spot(image, page, Sort::Bytes, name);
-    let change = Change {
-        index: spot.index,
-        drops: spot.there,
-        adds: 1,
-    };
+    let change = put_change(spot);
     let pages = path.pages;
     enter(image, scratch, page, free, change, name, &pages)
 }

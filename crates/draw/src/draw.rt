@@ -34,11 +34,9 @@ fn take_pages(image: &mut [u8], count: usize, numbers: &mut [u8], from: usize)
     requires { Stocked image.old count × (4 * (from + count) ≤ length numbers.old) }
     ensures { TookAll image.old count numbers.old from image.new numbers.new }
 {
-    let mut i = 0;
-    while i < count {
+    for i in 0..count {
         let page = take_page(image);
         set_number(numbers, from + i, page);
-        i += 1;
     }
 }
 

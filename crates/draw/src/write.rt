@@ -23,12 +23,10 @@ pub fn write_chain(image: &mut [u8], numbers: &[u8], from: usize, count: usize, 
     let end = from + count;
     let mut kind = SPAN;
     let mut page = first_at(numbers, from, end);
-    let mut i = 0;
-    while i < count {
+    for i in 0..count {
         let next = first_at(numbers, from + i + 1, end);
         put_page(image, page, kind, next, stream, 1016 * i);
         kind = CONTINUATION;
         page = next;
-        i += 1;
     }
 }

@@ -4,6 +4,7 @@ use native.Mathlib.Omega.{arith}
 use mathlib.Core.Path.{◌≡◌, refl, ap, sym, ◌∙◌, subst}
 use mathlib.Core.List.{List, [], ◌∷◌, ◌++◌}
 use lib.ListN.{length, take, drop, length-append}
+use Rattle.std.specs.Int.{from_bool}
 use Rattle.blockfile.specs.Bytes.{apply}
 use Rattle.blockfile.specs.Layout.{Entry, Table, Block, entries_from, entries_end, reached, free_count}
 use Rattle.blockfile.specs.Order.{KeyRule}
@@ -82,7 +83,7 @@ module _ {img : List ℕ} {root page : ℕ} {c : Change} {k v : List ℕ} {r : K
 
     -- ---- Staging
 
-    many-changed : length (changed t i c k v) + c.drops ≡ length (span_at t i).entries + c.adds
+    many-changed : length (changed t i c k v) + from_bool c.drops ≡ length (span_at t i).entries + from_bool c.adds
     many-changed = length-spliced c (coming k v) (span_at t i).entries o.change.fits
 
     entries-are : x.shape.entries ≡ length (changed t i c k v)

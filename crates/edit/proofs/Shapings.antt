@@ -2,9 +2,11 @@
 use Prim.Native.Nat.{ℕ, ◌+◌, ◌-◌, ◌/◌, ◌≤◌, ◌<◌, min}
 use native.Mathlib.Omega.{arith}
 use mathlib.Core.Path.{◌≡◌, refl, ap, ap₂, sym, ◌∙◌, subst}
+use mathlib.Core.Bool.{false}
 use mathlib.Core.List.{List, [], ◌∷◌, ◌++◌, append-nil}
 use lib.ListN.{length, take, drop, length-take, length-drop, drop_of_length-le}
 use lib.Seq.{take-length}
+use Rattle.std.specs.Int.{from_bool, div_ceil}
 use Rattle.blockfile.specs.Bytes.{pg, be16}
 use Rattle.blockfile.specs.Layout.{Entry, Table, columns, entries_from, entries_end, reached}
 use Rattle.blockfile.specs.Put.{Parts, parts, new_height, span_wanted}
@@ -21,14 +23,18 @@ use Rattle.edit.specs.declared.shape.Shape.{Shape}
 use Rattle.edit.specs.declared.shape.Wants.{Wants}
 use Rattle.edit.specs.Shapes.{ContsReady, ContsCounted, ShapeOf, ShapeReady, ShapeFor, Shaped, NewPages, WantsFor}
 
+-- pages of 1016 bytes of a stream
+pub ceil : (n : ℕ) {r : ℕ} → r ≡ div_ceil n 1016 → r ≡ (n + 1015) / 1016
+ceil n e = omega (arith, e)
+
 -- where a stream ends says how many pages it reaches
 pages-reached : (n : ℕ) (es : List Entry) → n ≡ entries_end entries_from es → (n + 1015) / 1016 ≡ reached es
 unfolding reached
 pages-reached n es e = ap (λ (m : ℕ). (m + 1015) / 1016) e
 
 -- it reaches the span's own
-pub own-page : {x : Shape} → Shaped x → 1 ≤ (x.stay + 1015) / 1016
-own-page {x} s = omega (arith, s.shape.stay, entries-after entries_from s.parts.stay)
+pub own-page : {x : Shape} → Shaped x → {n : ℕ} → n ≡ div_ceil x.stay 1016 → 1 ≤ n
+own-page {x} s e = omega (arith, s.shape.stay, entries-after entries_from s.parts.stay, ceil x.stay e)
 
 -- entries that move have pages, and with none there are none
 moved-pages : (es : List Entry) → 1 ≤ length es → reached es ≡ span_wanted es
@@ -40,9 +46,9 @@ none-moved [] l = refl
 none-moved (e ∷ es) l = absurd (omega arith)
 
 module _ (x : Shape) where
-  pub new-some : x.half < x.entries → NewPages x ((x.moved + 1015) / 1016)
-  new-some l =
-      record { is = λ p s. pages-reached x.moved p.move s.moved ∙ moved-pages p.move (omega (arith, s.half, s.entries)) }
+  pub new-some : x.half < x.entries → {n : ℕ} → n ≡ div_ceil x.moved 1016 → NewPages x n
+  new-some l e =
+      record { is = λ p s. ceil x.moved e ∙ pages-reached x.moved p.move s.moved ∙ moved-pages p.move (omega (arith, s.half, s.entries)) }
 
   pub new_none : x.entries ≤ x.half → NewPages x 0
   new_none l = record { is = λ p s. none-moved p.move (omega (arith, s.half, s.entries)) }
@@ -90,35 +96,39 @@ module _ (t : Table) (es : List Entry) (x : Shape) (many : x.entries ≡ length 
       })
 
 module _ {img : List ℕ} {page : ℕ} {c : Change} {both : ℕ} {l : SkipList} {size : ℕ} (r : ShapeReady img page c both l size) where
+  -- the code's sum
+  pub size-whole : (size < 65536) × (from_bool c.drops ≤ size + from_bool c.adds)
+  size-whole = (omega (arith, r.many, r.fits.few), omega (arith, r.many, r.fits.inside))
+
   -- how many entries there are after the change
-  entries-are : (y : SpanOn img page) → Fits c y.linked.span.entries → (e : Entry) → size + c.adds - c.drops ≡ length (spliced c e y.linked.span.entries)
+  entries-are : (y : SpanOn img page) → Fits c y.linked.span.entries → (e : Entry) → size + from_bool c.adds - from_bool c.drops ≡ length (spliced c e y.linked.span.entries)
   entries-are y f e = omega (arith, r.many, span-size r.span, span-size y, length-spliced c e y.linked.span.entries f)
 
-  pub measurable : (half : ℕ) → half ≤ size + c.adds - c.drops → Measurable img page c half
-  measurable half h = record { span = r.span; fits = r.fits; has = omega (arith, r.many, r.fits.inside) }
+  pub measurable : (half n : ℕ) → n ≡ size + from_bool c.adds - from_bool c.drops → half ≤ n → Measurable img page c half
+  measurable half n q h = record { span = r.span; fits = r.fits; has = omega (arith, r.many, r.fits.inside) }
 
-  module _ (ends : Ends) (half : ℕ) (m : MeasuredOn img page c both half ends) where
-    pub shape-for-split : (height : ℕ) → l.most < size + c.adds - c.drops → half ≡ (size + c.adds - c.drops + 1) / 2 → height ≡ new_height (l.spans + 1) l.max
-        → ShapeFor img page c both l (record { entries = size + c.adds - c.drops; half = half; stay = ends.stay; moved = ends.moved; height = height })
+  module _ (ends : Ends) (half : ℕ) (m : MeasuredOn img page c both half ends) (many : ℕ) (q : many ≡ size + from_bool c.adds - from_bool c.drops) where
+    pub shape-for-split : (height : ℕ) → l.most < many → half ≡ (many + 1) / 2 → height ≡ new_height (l.spans + 1) l.max
+        → ShapeFor img page c both l (record { entries = many; half = half; stay = ends.stay; moved = ends.moved; height = height })
     shape-for-split height b h k =
         record {
           stay = m.stay_near;
           moved = m.moved_near;
           is = λ y f t o e z.
-              let n : size + c.adds - c.drops ≡ length (spliced c e y.linked.span.entries) = entries-are y f e in
+              let n : many ≡ length (spliced c e y.linked.span.entries) = q ∙ entries-are y f e in
               let v : Halved c e y.linked.span.entries half ends = m.is y e z in
-              shape-split t (spliced c e y.linked.span.entries) _ n v.stay v.moved (omega (arith, o.most, n)) (h ∙ ap (λ (q : ℕ). (q + 1) / 2) n)
-              (k ∙ ap₂ (λ (q w : ℕ). new_height (q + 1) w) o.spans o.max);
+              shape-split t (spliced c e y.linked.span.entries) _ n v.stay v.moved (omega (arith, o.most, n)) (h ∙ ap (λ (p : ℕ). (p + 1) / 2) n)
+              (k ∙ ap₂ (λ (p w : ℕ). new_height (p + 1) w) o.spans o.max);
         }
 
-    pub shape-for-plain : size + c.adds - c.drops ≤ l.most → half ≡ size + c.adds - c.drops
+    pub shape-for-plain : many ≤ l.most → half ≡ many
         → ShapeFor img page c both l (record { entries = half; half = half; stay = ends.stay; moved = ends.moved; height = 0 })
     shape-for-plain b h =
         record {
           stay = m.stay_near;
           moved = m.moved_near;
           is = λ y f t o e z.
-              let n : half ≡ length (spliced c e y.linked.span.entries) = h ∙ entries-are y f e in
+              let n : half ≡ length (spliced c e y.linked.span.entries) = h ∙ q ∙ entries-are y f e in
               let v : Halved c e y.linked.span.entries half ends = m.is y e z in
               shape-plain t (spliced c e y.linked.span.entries) _ n v.stay v.moved (omega (arith, o.most, n, h)) refl refl;
         }
@@ -127,7 +137,7 @@ module _ {img : List ℕ} {page : ℕ} {c : Change} {both : ℕ} {l : SkipList} 
 
 -- no entry gives way and none comes
 abbrev pub no_change : ℕ → Change
-no_change n = record { index = n; drops = 0; adds = 0 }
+no_change n = record { index = n; drops = false; adds = false }
 
 no_change_lem : (e : Entry) (es : List Entry) (n : ℕ) → n ≡ length es → take n (spliced (no_change n) e es) ≡ es
 unfolding spliced
@@ -141,7 +151,7 @@ module _ {img : List ℕ} {page size : ℕ} (r : ContsReady img page size) where
   none-fits =
       record {
         span = r.span;
-        fits = record { drops = omega arith; adds = omega arith; inside = omega (arith, r.many); few = omega (arith, r.many, r.few) };
+        fits = record { inside = omega (arith, r.many); few = omega (arith, r.many, r.few) };
         has = omega (arith, r.many);
       }
 
@@ -152,8 +162,8 @@ module _ {img : List ℕ} {page size : ℕ} (r : ContsReady img page size) where
         (m.is y e refl).stay
         ∙ ap (entries_end entries_from) (no_change_lem e y.linked.span.entries size (omega (arith, r.many, span-size r.span, span-size y)))
 
-    pub one-reached : 1 ≤ (ends.stay + 1015) / 1016
-    one-reached = omega (arith, end_is r.span, entries-after entries_from r.span.linked.span.entries)
+    pub one-reached : {n : ℕ} → n ≡ div_ceil ends.stay 1016 → 1 ≤ n
+    one-reached e = omega (arith, ceil ends.stay e, end_is r.span, entries-after entries_from r.span.linked.span.entries)
 
-    pub conts-counted : ContsCounted img page ((ends.stay + 1015) / 1016 - 1)
-    conts-counted = record { is = λ y. omega (arith, pages-reached ends.stay y.linked.span.entries (end_is y), y.there.reach) }
+    pub conts-counted : {n : ℕ} → n ≡ div_ceil ends.stay 1016 → ContsCounted img page (n - 1)
+    conts-counted e = record { is = λ y. omega (arith, ceil ends.stay e, pages-reached ends.stay y.linked.span.entries (end_is y), y.there.reach) }

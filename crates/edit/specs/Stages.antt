@@ -1,5 +1,6 @@
 -- The entries of a plan, staged in the buffer.
 use Rattle.std.specs.Prelude.{ℕ, ◌+◌, ◌*◌, ◌≤◌, ◌≡◌, List, length, take, drop}
+use Rattle.std.specs.Int.{from_bool}
 use Rattle.blockfile.specs.Layout.{Entry, entries_from, entries_end}
 use Rattle.search.specs.Spans.{SpanOn}
 use Rattle.stage.specs.declared.change.Change.{Change}
@@ -17,7 +18,7 @@ coming k v = record { key = k; value = v }
 -- es are the span's entries, of which so many stay after the change
 pub record Staying (img : List ℕ) (x : Plan) (c : Change) (k v : List ℕ) (y : SpanOn img x.page) : Type 0 where
   pub fits : Fits c y.linked.span.entries
-  pub has : x.shape.half + c.drops ≤ length y.linked.span.entries + c.adds
+  pub has : x.shape.half + from_bool c.drops ≤ length y.linked.span.entries + from_bool c.adds
   pub end : x.shape.stay ≡ entries_end entries_from (take x.shape.half (spliced c (coming k v) y.linked.span.entries))
 
 pub record StayStage (img buffer : List ℕ) (x : Plan) (c : Change) (k v : List ℕ) : Type 0 where
@@ -40,7 +41,7 @@ pub record StayStaged (img buffer : List ℕ) (x : Plan) (c : Change) (k v : Lis
 pub record Moving (img : List ℕ) (x : Plan) (c : Change) (k v : List ℕ) (u : Cursor) (es : List Entry) : Type 0 where
   pub index : u.index ≡ x.shape.half
   pub stands : Stands img c es u
-  pub all : x.shape.entries + c.drops ≡ length es + c.adds
+  pub all : x.shape.entries + from_bool c.drops ≡ length es + from_bool c.adds
   pub half : x.shape.half ≤ x.shape.entries
   pub end : x.shape.moved ≡ entries_end entries_from (drop x.shape.half (spliced c (coming k v) es))
 
@@ -63,7 +64,7 @@ pub record MovedStaged (img buffer : List ℕ) (x : Plan) (c : Change) (k v : Li
 -- y is the span that the plan changes
 pub record PartsFor (img : List ℕ) (x : Plan) (c : Change) (k v : List ℕ) (y : SpanOn img x.page) : Type 0 where
   pub staying : Staying img x c k v y
-  pub all : x.shape.entries + c.drops ≡ length y.linked.span.entries + c.adds
+  pub all : x.shape.entries + from_bool c.drops ≡ length y.linked.span.entries + from_bool c.adds
   pub half : x.shape.half ≤ x.shape.entries
   pub end : x.shape.moved ≡ entries_end entries_from (drop x.shape.half (spliced c (coming k v) y.linked.span.entries))
 

@@ -11,7 +11,7 @@ use crate::tower::{NewTower, write_tower};
 use draw::draw::draw_pages;
 use draw::list::{number_at, set_number};
 use links::around::{towers_after, towers_before};
-use stage::change::Change;
+use stage::change::{Change, NewEntry};
 
 // Draws the pages that the plan wants, and the further ones: the list in the buffer is then the span's own page and these. Answers
 // how many pages of the span were left over and given back.
@@ -90,13 +90,12 @@ pub fn carry_flat(
     buffer: &mut [u8],
     plan: Plan,
     change: Change,
-    key: &[u8],
-    value: &[u8],
+    new: NewEntry<'_>,
 ) -> usize
-    requires { CarryReady image.old buffer.old plan change key.now value.now × (plan.wants.tower ≡ 0) }
-    ensures { Carried image.old plan change key.now value.now result image.new }
+    requires { CarryReady image.old buffer.old plan change new.key.now new.value.now × (plan.wants.tower ≡ 0) }
+    ensures { Carried image.old plan change new.entry.key.now new.entry.value.now result image.new }
 {
-    stage_parts(image, buffer, plan, change, key, value);
+    stage_parts(image, buffer, plan, change, new);
     commit_flat(image, buffer, plan)
 }
 
@@ -106,14 +105,13 @@ pub fn carry_out(
     buffer: &mut [u8],
     plan: Plan,
     change: Change,
-    key: &[u8],
-    value: &[u8],
+    new: NewEntry<'_>,
     path: &[u16; 252],
 )
-    requires { CarryOn image.old buffer.old plan change key.now value.now path.now }
-    ensures { CarriedOn image.old plan change key.now value.now path.now image.new }
+    requires { CarryOn image.old buffer.old plan change new.key.now new.value.now path.now }
+    ensures { CarriedOn image.old plan change new.entry.key.now new.entry.value.now path.now image.new }
 {
-    stage_parts(image, buffer, plan, change, key, value);
+    stage_parts(image, buffer, plan, change, new);
     if plan.wants.tower == 0 {
         commit_flat(image, buffer, plan);
         return;

@@ -8,5 +8,5 @@ pub fn tower_height(m: usize, most: usize) -> usize
     ensures { result ≡ new_height m most }
 {
     let zeros = u32::trailing_zeros(m as u32) as usize;
-    if zeros < most { zeros } else { most }
+    zeros.min(most)
 }

@@ -6,7 +6,7 @@ use crate::plan::make_plan;
 use crate::shape::count_conts;
 use search::path::descend;
 use search::table::{TableRef, find_from};
-use stage::change::{Change, find_spot};
+use stage::change::{NewEntry, find_spot, put_change};
 
 // Puts the value under the key in the table; `free` pages are free. Answers how many are free after it; without room it is none,
 // and nothing changes. The scratch is as long as the image.
@@ -25,11 +25,7 @@ pub fn put(
     let page = find_from(image, table, path.pages[0] as usize, key);
     let sort = table.sort;
     let spot = find_spot(image, page, sort, key);
-    let change = Change {
-        index: spot.index,
-        drops: spot.there,
-        adds: 1,
-    };
+    let change = put_change(spot);
     let base = image.len() / 1024;
     let plan = make_plan(
         image,
@@ -47,6 +43,7 @@ pub fn put(
         return None;
     }
     let pages = path.pages;
-    carry_out(image, scratch, plan, change, key, value, &pages);
+    let new = NewEntry { key, value };
+    carry_out(image, scratch, plan, change, new, &pages);
     Some(available - wanted)
 }

@@ -3,7 +3,7 @@ ghost use Rattle.edit.specs.Shapes.{ContsReady, ContsCounted, ShapeReady, ShapeF
 
 use crate::fields::SkipList;
 use crate::height::tower_height;
-use stage::change::Change;
+use stage::change::{Change, size_after};
 use stage::measure::measure;
 
 // How many entries there are, and how many of them stay; where the streams of those that stay and of those that move end; the
@@ -17,7 +17,7 @@ pub struct Shape {
     pub height: usize,
 }
 
-// The pages wanted: continuation pages of the span, pages of a new span, a tower's page.
+// How many pages are wanted: continuation pages of the span, pages of a new span, and a tower's page, 1 or 0.
 #[derive(Clone, Copy)]
 pub struct Wants {
     pub conts: usize,
@@ -32,11 +32,11 @@ pub fn count_conts(image: &[u8], page: usize, size: usize) -> usize
 {
     let none = Change {
         index: size,
-        drops: 0,
-        adds: 0,
+        drops: false,
+        adds: false,
     };
     let ends = measure(image, page, none, 0, size);
-    (ends.stay + 1015) / 1016 - 1
+    ends.stay.div_ceil(1016) - 1
 }
 
 // The shape of the span on the page after the change. It has `size` entries now; the new entry has `both` bytes of key and value.
@@ -51,7 +51,7 @@ pub fn shape_of(
     requires { ShapeReady image.now page change both list size }
     ensures { ShapeFor image.now page change both list result }
 {
-    let entries = size + change.adds - change.drops;
+    let entries = size_after(size, change);
     if list.most < entries {
         let half = (entries + 1) / 2;
         let ends = measure(image, page, change, both, half);
@@ -80,7 +80,7 @@ fn new_pages(shape: Shape) -> usize
     ensures { NewPages shape result }
 {
     if shape.half < shape.entries {
-        return (shape.moved + 1015) / 1016;
+        return shape.moved.div_ceil(1016);
     }
     0
 }
@@ -90,18 +90,11 @@ pub fn wanted(shape: Shape) -> Wants
     requires { Shaped shape }
     ensures { WantsFor shape result }
 {
-    let conts = (shape.stay + 1015) / 1016 - 1;
+    let conts = shape.stay.div_ceil(1016) - 1;
     let span = new_pages(shape);
-    if shape.height == 0 {
-        return Wants {
-            conts,
-            span,
-            tower: 0,
-        };
-    }
     Wants {
         conts,
         span,
-        tower: 1,
+        tower: shape.height.min(1),
     }
 }

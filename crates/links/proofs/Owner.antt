@@ -2,7 +2,7 @@
 use Prim.Native.Nat.{ℕ, suc, ◌+◌, ◌*◌, ◌≤◌, ◌<◌}
 use native.Mathlib.Omega.{arith}
 use native.Mathlib.Decide.{dec_lt}
-use mathlib.Core.Path.{◌≡◌, refl, ap, sym, ◌∙◌, subst}
+use mathlib.Core.Path.{◌≡◌, ap, sym, ◌∙◌, subst}
 use mathlib.Core.Logic.{◌≢◌, ◌⊎◌, inl, inr, by_cases}
 use mathlib.Core.Bool.{Bool, cond}
 use mathlib.Core.Option.{some}
@@ -10,6 +10,8 @@ use mathlib.Core.List.{List, [], ◌∷◌, ◌++◌, append-nil}
 use lib.ListN.{length, get_or, take, drop, length-drop}
 use lib.Seq.{drop-cons, get_or-drop}
 use borrow.Author.Tests.{lt-ltb}
+use Rattle.std.specs.Prelude.{Some, None}
+use Rattle.std.proofs.lemmas.Option.{none-some, same_Some}
 use Rattle.blockfile.specs.Bytes.{pg, be16, be32, Every}
 use Rattle.blockfile.specs.Layout.{Span, Tower, Column, columns, spans_of, towers_of, tower_in}
 use Rattle.blockfile.specs.Order.{Within}
@@ -22,7 +24,7 @@ use Rattle.entries.specs.Places.{IsPage}
 use Rattle.search.specs.Tables.{Reading}
 use Rattle.search.proofs.Distinct.{one_place}
 use Rattle.search.proofs.Towers.{AllBorne, entry_here, towers-from, others-from}
-use Rattle.links.specs.Levels.{Preceded, TowerAt}
+use Rattle.links.specs.Levels.{Preceded, TowerHere, TowerAt}
 use Rattle.links.proofs.Standing.{Stands, next-stands, Own, own-or-not, before-page}
 use Rattle.links.proofs.Behind.{leads}
 
@@ -52,21 +54,15 @@ module _ {img : List ℕ} {root : ℕ} {t : Reading img root} {page k : ℕ} {le
 
   -- ---- No tower
 
-  none-at : tower_in here.tower ≡ [] → TowerAt t (suc k) 0
+  none-at : tower_in here.tower ≡ [] → TowerAt t (suc k) None
   none-at e =
-      record {
-        page = λ z. absurd (z refl);
-        none = λ _. towers-here ∙ e;
-        some = λ z. absurd (z refl);
-        nexts = λ z. absurd (z refl);
-        low = λ z. absurd (z refl);
-      }
+      record { none = λ _. towers-here ∙ e; some = λ n z. absurd (none-some _ z) }
 
   -- a path without levels: the head has none, so there is no other tower
-  pub flat-none : get_or levels 0 0 ≡ 0 → TowerAt t (suc k) 0
+  pub flat-none : get_or levels 0 0 ≡ 0 → TowerAt t (suc k) None
   flat-none z = go own-here
     where
-      go : (tower_in here.tower ≡ []) ⊎ Own img top here behind → TowerAt t (suc k) 0
+      go : (tower_in here.tower ≡ []) ⊎ Own img top here behind → TowerAt t (suc k) None
       go (inl e) = none-at e
       go (inr o) = absurd (omega (arith, z, (before-page t a.path.before 0 (omega (arith, o.range))).low))
 
@@ -107,10 +103,10 @@ module _ {img : List ℕ} {root : ℕ} {t : Reading img root} {page k : ℕ} {le
           record { small = t.readable.small; low = low; high = high; fits = omega arith }
 
       -- there is none, or it is another span's
-      pub next-none : (n ≡ 0) ⊎ (be32 (pg img n) 12 ≢ page) → TowerAt t (suc k) 0
+      pub next-none : (n ≡ 0) ⊎ (be32 (pg img n) 12 ≢ page) → TowerAt t (suc k) None
       next-none y = go own-here y
         where
-          go : (tower_in here.tower ≡ []) ⊎ Own img top here behind → (n ≡ 0) ⊎ (be32 (pg img n) 12 ≢ page) → TowerAt t (suc k) 0
+          go : (tower_in here.tower ≡ []) ⊎ Own img top here behind → (n ≡ 0) ⊎ (be32 (pg img n) 12 ≢ page) → TowerAt t (suc k) None
           go (inl f) y = none-at f
           go (inr o) (inl y) = absurd (omega (arith, own-next o, o.borne.1.0.low))
           go (inr o) (inr y) = absurd (y (own-span o))
@@ -143,13 +139,15 @@ module _ {img : List ℕ} {root : ℕ} {t : Reading img root} {page k : ℕ} {le
         height : be16 (pg img n) 10 ≡ own.own.height
         height = ap (λ (p : ℕ). be16 (pg img p) 10) (own-next own) ∙ own.borne.0.height
 
-        pub next-own : TowerAt t (suc k) n
-        next-own =
+        owned : TowerHere t (suc k) n
+        owned =
             record {
-              page = λ _. subst (IsPage img) (sym (own-next own)) own.borne.1.0;
-              none = λ z. absurd (y z);
-              some = λ _. (own.own, towers-here ∙ own.has, own-next own, height);
-              nexts = λ _ l m. ap (λ (p : ℕ). be32 (pg img p) (16 + 4 * l)) (own-next own)
+              page = subst (IsPage img) (sym (own-next own)) own.borne.1.0;
+              tower = (own.own, towers-here ∙ own.has, own-next own, height);
+              nexts = λ l m. ap (λ (p : ℕ). be32 (pg img p) (16 + 4 * l)) (own-next own)
                   ∙ entry_here img own.own here.span.page (towers_of behind) own.borne l (omega (arith, height));
-              low = λ _. omega (arith, height, own.range);
+              low = omega (arith, height, own.range);
             }
+
+        pub next-own : TowerAt t (suc k) (Some n)
+        next-own = record { none = λ z. absurd (none-some _ (sym z)); some = λ m z. subst (TowerHere t (suc k)) (same_Some _ _ z) owned }

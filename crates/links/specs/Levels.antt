@@ -1,5 +1,5 @@
 -- The towers around a place of a table, level by level.
-use Rattle.std.specs.Prelude.{ℕ, zero, suc, ◌+◌, ◌*◌, ◌≤◌, ◌<◌, ◌≡◌, List, [], ◌∷◌, length, get_or, take, drop}
+use Rattle.std.specs.Prelude.{ℕ, zero, suc, ◌+◌, ◌*◌, ◌≤◌, ◌<◌, ◌≡◌, List, [], ◌∷◌, length, get_or, take, drop, Option, Some, None}
 use Rattle.blockfile.specs.Bytes.{pg, be16, be32}
 use Rattle.blockfile.specs.Layout.{Tower, Table, columns, towers_of}
 use Rattle.blockfile.specs.WellFormed.{next_at}
@@ -67,14 +67,18 @@ pub record Precedes (img : List ℕ) (page : ℕ) (levels : List ℕ) : Type 0 w
   pub place : ℕ
   pub is : Preceded reading page place levels
 
--- r is the page of the tower at place i of the table, 0 if there is none; its entries are the next towers behind it
-pub record TowerAt {img : List ℕ} {root : ℕ} (t : Reading img root) (i r : ℕ) : Type 0 where
-  pub page : (r ≡ 0 → ⊥) → IsPage img r
-  pub none : r ≡ 0 → towers_at t.table i ≡ []
-  pub some : (r ≡ 0 → ⊥) → (w : Tower) × (towers_at t.table i ≡ w ∷ []) × (r ≡ w.page) × (be16 (pg img r) 10 ≡ w.height)
-  pub nexts : (r ≡ 0 → ⊥) → (l : ℕ) → l < be16 (pg img r) 10 → be32 (pg img r) (16 + 4 * l) ≡ next_at l (towers_of (drop (suc i) (columns t.table)))
-  pub low : (r ≡ 0 → ⊥) → be16 (pg img r) 10 ≤ t.table.head.height
+-- n is the page of the tower at place i of the table; its entries are the next towers behind it
+pub record TowerHere {img : List ℕ} {root : ℕ} (t : Reading img root) (i n : ℕ) : Type 0 where
+  pub page : IsPage img n
+  pub tower : (w : Tower) × (towers_at t.table i ≡ w ∷ []) × (n ≡ w.page) × (be16 (pg img n) 10 ≡ w.height)
+  pub nexts : (l : ℕ) → l < be16 (pg img n) 10 → be32 (pg img n) (16 + 4 * l) ≡ next_at l (towers_of (drop (suc i) (columns t.table)))
+  pub low : be16 (pg img n) 10 ≤ t.table.head.height
+
+-- r is the page of the tower at place i of the table, if there is one
+pub record TowerAt {img : List ℕ} {root : ℕ} (t : Reading img root) (i : ℕ) (r : Option ℕ) : Type 0 where
+  pub none : r ≡ None → towers_at t.table i ≡ []
+  pub some : (n : ℕ) → r ≡ Some n → TowerHere t i n
 
 -- wherever the span on the page is at a place and the path has the last towers before it
-pub record TowerOn (img : List ℕ) (page : ℕ) (levels : List ℕ) (r : ℕ) : Type 0 where
+pub record TowerOn (img : List ℕ) (page : ℕ) (levels : List ℕ) (r : Option ℕ) : Type 0 where
   pub is : (root : ℕ) (t : Reading img root) (k : ℕ) → Preceded t page k levels → TowerAt t (suc k) r

@@ -18,10 +18,8 @@ pub fn towers_before(path: &[u16; 252], head: usize, before: &mut [usize; 252])
     requires { Pages path.now × (length before.old ≡ 252) }
     ensures { Filled before.old 252 (λ l. page_or_head head (get_or path.now l 0)) before.new }
 {
-    let mut i = 0;
-    while i < 252 {
+    for i in 0..252 {
         before[i] = or_head(head, path[i] as usize);
-        i += 1;
     }
 }
 
@@ -32,31 +30,29 @@ pub fn towers_after(image: &[u8], root: usize, before: &[usize; 252], after: &mu
     ensures { AfterIn image.now root before.now after.new }
 {
     let height = get16(image, get32(image, root, 12), 10);
-    let mut i = 0;
-    while i < height {
+    for i in 0..height {
         after[i] = get32(image, before[i], 16 + 4 * i);
-        i += 1;
     }
 }
 
-// The page of the tower of the span on `page`, 0 if it has none, where the path has the last towers before that span: the next tower is
+// The page of the tower of the span on `page`, if it has one, where the path has the last towers before that span: the next tower is
 // the span's if it names the span. A path without levels is that of a table with no tower but the head.
-pub fn tower_of(image: &[u8], path: &[u16; 252], page: usize) -> usize
+pub fn tower_of(image: &[u8], path: &[u16; 252], page: usize) -> Option<usize>
     requires { Precedes image.now page path.now }
     ensures { TowerOn image.now page path.now result }
 {
     let lowest = path[0] as usize;
     if lowest == 0 {
-        return 0;
+        return None;
     }
     let next = get32(image, lowest, 16);
     if next == 0 {
-        return 0;
+        return None;
     }
     if get32(image, next, 12) != page {
-        return 0;
+        return None;
     }
-    next
+    Some(next)
 }
 
 // The first `height` entries of the tower on the page.
@@ -64,9 +60,7 @@ pub fn get_entries(image: &[u8], page: usize, height: usize, nexts: &mut [usize;
     requires { Inside image.now page 0 1024 × (height ≤ 252) × (length nexts.old ≡ 252) }
     ensures { Filled nexts.old height (λ l. be32 (pg image.now page) (16 + 4 * l)) nexts.new }
 {
-    let mut i = 0;
-    while i < height {
+    for i in 0..height {
         nexts[i] = get32(image, page, 16 + 4 * i);
-        i += 1;
     }
 }

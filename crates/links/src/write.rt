@@ -13,10 +13,8 @@ pub fn link_levels(image: &mut [u8], before: &[usize; 252], values: &[usize; 252
     requires { Linkable image.old before.now height }
     ensures { image.new ≡ apply (link_writes before.now values.now height) image.old }
 {
-    let mut level = 0;
-    while level < height {
+    for level in 0..height {
         put32(image, before[level], 16 + 4 * level, values[level]);
-        level += 1;
     }
 }
 
@@ -25,10 +23,8 @@ fn put_entries(image: &mut [u8], page: usize, height: usize, nexts: &[usize; 252
     requires { Inside image.old page 0 1024 × (height ≤ 252) }
     ensures { image.new ≡ write image.old page 16 (gather word32 (levels_below nexts.now height)) }
 {
-    let mut i = 0;
-    while i < height {
+    for i in 0..height {
         put32(image, page, 16 + 4 * i, nexts[i]);
-        i += 1;
     }
 }
 

@@ -1,9 +1,10 @@
 -- The ways through `give_gone`: pages in hand are given back, one after another.
-use Prim.Native.Nat.{ℕ, zero, suc, ◌+◌, ◌*◌, ◌≤◌}
+use Prim.Native.Nat.{ℕ, ◌+◌, ◌*◌, ◌≤◌}
 use native.Mathlib.Omega.{arith}
 use mathlib.Core.Path.{◌≡◌, refl, ap, sym, ◌∙◌, subst}
 use mathlib.Core.List.{List, [], ◌∷◌, ◌++◌, append_assoc, append-nil}
 use lib.ListN.{length}
+use Rattle.std.specs.Prelude.{Option, Some, None, option_to_list}
 use Rattle.blockfile.specs.Bytes.{Write, apply}
 use Rattle.blockfile.specs.Layout.{Block}
 use Rattle.blockfile.specs.Free.{give_page, give_many}
@@ -18,7 +19,7 @@ use Rattle.entries.specs.Places.{IsPage}
 use Rattle.draw.specs.Hands.{InHand, Chained, GaveChain}
 use Rattle.draw.specs.Writing.{PageOf}
 use Rattle.draw.proofs.Hands.{shown, hand-pages, hand-few}
-use Rattle.remove.specs.Gone.{page_in, SpanInHand, GaveGone}
+use Rattle.remove.specs.Gone.{SpanInHand, GaveGone}
 
 -- pages given back in two steps
 pub give-append : (xs ys : List ℕ) (bs : List Block) → (give_many (xs ++ ys) bs).writes ≡ (give_many xs bs).writes ++ (give_many ys (give_many xs bs).free).writes
@@ -110,22 +111,22 @@ module _ {img : List ℕ} {start page : ℕ} (h : SpanInHand img start page) whe
             high = subst (λ (n : ℕ). 1024 * tower ≤ n) (sym (ap length span-given ∙ length-apply (give_many (h.conts ++ (page ∷ [])) bs).writes img)) p.high;
           }
 
-      flat-given : {tower : ℕ} → tower ≡ 0 → out2 ≡ apply (give_many (h.conts ++ (page ∷ page_in tower)) bs).writes img
-      flat-given z = span-given ∙ ap (λ (n : ℕ). apply (give_many (h.conts ++ (page ∷ page_in n)) bs).writes img) (sym z)
+      flat-given : {tower : Option ℕ} → tower ≡ None → out2 ≡ apply (give_many (h.conts ++ (page ∷ option_to_list tower)) bs).writes img
+      flat-given z = span-given ∙ ap (λ (o : Option ℕ). apply (give_many (h.conts ++ (page ∷ option_to_list o)) bs).writes img) (sym z)
 
-      tall-given : {tower : ℕ} → (tower ≡ 0 → ⊥) → {out3 : List ℕ} → Gave out2 tower out3 → out3 ≡ apply (give_many (h.conts ++ (page ∷ page_in tower)) bs).writes img
-      tall-given {tower} z {out3} k = go tower z k
-        where
-          go : (n : ℕ) → (n ≡ 0 → ⊥) → Gave out2 n out3 → out3 ≡ apply (give_many (h.conts ++ (page ∷ page_in n)) bs).writes img
-          go zero z k = absurd (z refl)
-          go (suc n) z k =
-              give-more img (h.conts ++ (page ∷ [])) (suc n) bs span-given (k (give_many (h.conts ++ (page ∷ [])) bs).free shown-second)
-              ∙ ap (λ (l : List ℕ). apply (give_many l bs).writes img) (append_assoc h.conts (page ∷ []) (suc n ∷ []))
+      tall-given : {tower : Option ℕ} (n : ℕ) → tower ≡ Some n → {out3 : List ℕ} → Gave out2 n out3
+          → out3 ≡ apply (give_many (h.conts ++ (page ∷ option_to_list tower)) bs).writes img
+      tall-given n z k =
+          give-more img (h.conts ++ (page ∷ [])) n bs span-given (k (give_many (h.conts ++ (page ∷ [])) bs).free shown-second)
+          ∙ ap (λ (l : List ℕ). apply (give_many l bs).writes img) (append_assoc h.conts (page ∷ []) (n ∷ []))
+          ∙ ap (λ (o : Option ℕ). apply (give_many (h.conts ++ (page ∷ option_to_list o)) bs).writes img) (sym z)
 
-pub gave-flat : {img : List ℕ} {start page tower n : ℕ} {out1 out2 : List ℕ} → GaveChain img start n out1 → Gave out1 page out2 → tower ≡ 0
+pub gave-flat : {img : List ℕ} {start page : ℕ} {tower : Option ℕ} {n : ℕ} {out1 out2 : List ℕ} → GaveChain img start n out1 → Gave out1 page out2 → tower ≡ None
     → GaveGone img start page tower (n + 1) out2
-gave-flat g f z = record { image = λ h. flat-given h g f z; given = λ h. omega (arith, conts-many h g, z) }
+gave-flat {tower = tower} g f z =
+    record { image = λ h. flat-given h g f z; given = λ h. let one : length (option_to_list tower) ≡ 0 = ap (λ (o : Option ℕ). length (option_to_list o)) z in omega (arith, conts-many h g) }
 
-pub gave-tall : {img : List ℕ} {start page tower n : ℕ} {out1 out2 out3 : List ℕ} → GaveChain img start n out1 → Gave out1 page out2 → (tower ≡ 0 → ⊥) → Gave out2 tower out3
-    → GaveGone img start page tower (n + 2) out3
-gave-tall g f z k = record { image = λ h. tall-given h g f z k; given = λ h. omega (arith, conts-many h g, z) }
+pub gave-tall : {img : List ℕ} {start page : ℕ} {tower : Option ℕ} {n : ℕ} {out1 out2 out3 : List ℕ} → GaveChain img start n out1 → Gave out1 page out2 → (m : ℕ) → tower ≡ Some m
+    → Gave out2 m out3 → GaveGone img start page tower (n + 2) out3
+gave-tall {tower = tower} g f m z k =
+    record { image = λ h. tall-given h g f m z k; given = λ h. let one : length (option_to_list tower) ≡ 1 = ap (λ (o : Option ℕ). length (option_to_list o)) z in omega (arith, conts-many h g) }

@@ -8,7 +8,7 @@ use mathlib.Core.List.{List, [], ◌∷◌, ◌++◌, map}
 use mathlib.Core.Option.{Option, none, some}
 use lib.ListN.{length, take, drop, length-map}
 use lib.Dec.{T}
-use Rattle.std.specs.Prelude.{Some, None}
+use Rattle.std.specs.Prelude.{Some, None, Result, Ok, Err}
 use Rattle.std.proofs.lemmas.Option.{none-some}
 use Rattle.blockfile.specs.Bytes.{Write, apply}
 use Rattle.blockfile.specs.Layout.{Entry, Tower, Column, Table, Layout, columns, tower_in, towers_of, entries_of, free_count}
@@ -28,8 +28,7 @@ use Rattle.search.specs.declared.path.Path.{Path}
 use Rattle.search.specs.Tables.{TargetIn}
 use Rattle.search.specs.Paths.{PathIn}
 use Rattle.links.proofs.Leading.{path-strict}
-use Rattle.stage.specs.declared.change.Spot.{Spot}
-use Rattle.stage.specs.Changes.{spliced, Fits, Spotted, SpottedOn}
+use Rattle.stage.specs.Changes.{Fits, Spotted, SpottedOn}
 use Rattle.stage.proofs.Splices.{length-spliced}
 use Rattle.edit.specs.declared.fields.Links.{Links}
 use Rattle.edit.specs.Fields.{LinkedOn, LinksOf, LinksRead}
@@ -90,39 +89,35 @@ module _ {img : List ℕ} {d : TableRef} {L : Layout} {name : List ℕ} {t : Tab
         at = sym (f.is (reading a));
       }
 
-  module _ (s : Spot) (g : SpottedOn img page d.sort k s) where
+  module _ (s : Result ℕ ℕ) (g : SpottedOn img page d.sort k s) where
     abbrev sp : Spotted (key_rule name) k es s
     sp = spotted a k page f s g
 
     found_at : find k (entries_of t) ≡ find k es
     found_at = find_at (key_rule name) (keys-ordered name) k t i (target_is (key_rule name) (keys-ordered name) k t (ok a k))
 
-    missing : s.there ≡ 0 → find k (entries_of t) ≡ none
-    missing z = found_at ∙ sp.missing z
+    missing : (index : ℕ) → s ≡ Err index → find k (entries_of t) ≡ none
+    missing index z = found_at ∙ sp.missing index z
 
-    module _ (there : s.there ≡ 0 → ⊥) where
-      is_one : s.there ≡ 1
-      is_one = go s.there sp.bit there
-        where
-          go : (n : ℕ) → n ≤ 1 → (n ≡ 0 → ⊥) → n ≡ 1
-          go zero l z = absurd (z refl)
-          go (suc n) l z = omega arith
+    module _ (index : ℕ) (there : s ≡ Ok index) where
+      spotted_at : Spotted (key_rule name) k es (Ok index)
+      spotted_at = subst (Spotted (key_rule name) k es) there sp
 
       found : (v : List ℕ) × (find k (entries_of t) ≡ some v)
-      found = let w = sp.found is_one in (w.0, found_at ∙ w.1)
+      found = let w = spotted_at.found index refl in (w.0, found_at ∙ w.1)
 
-      fits : Fits (taken_out s.index) es
-      fits = record { drops = omega arith; adds = omega arith; inside = subst (λ (n : ℕ). s.index + n ≤ length es) is_one sp.inside; few = sp.few }
+      fits : Fits (taken_out index) es
+      fits = record { inside = spotted_at.inside; few = sp.few }
 
       -- the others are the entries without the key, one fewer
-      erased : others t i s.index ≡ erase k es
-      erased = ap (λ (n : ℕ). spliced (record { index = s.index; drops = n; adds = 0 }) (coming [] []) es) (sym is_one) ∙ sym (sp.remove (coming [] []))
+      erased : others t i index ≡ erase k es
+      erased = sym (spotted_at.remove (coming [] []))
 
       one_fewer : length (erase k es) + 1 ≡ length es
-      one_fewer = omega (arith, ap length erased, length-spliced (taken_out s.index) (coming [] []) es fits)
+      one_fewer = omega (arith, ap length erased, length-spliced (taken_out index) (coming [] []) es fits)
 
       -- never a split, and no pages but the span's own
-      leave-of : LeaveOf img d.root page s.index (key_rule name) t L.free i
+      leave-of : LeaveOf img d.root page index (key_rule name) t L.free i
       leave-of =
           record {
             rewrite = record {
@@ -156,7 +151,7 @@ module _ {img : List ℕ} {d : TableRef} {L : Layout} {name : List ℕ} {t : Tab
 
           begins : BeginsWith k (span_at t (suc later.0)).entries
           begins =
-              let w = sp.found is_one in
+              let w = spotted_at.found index refl in
               subst (λ (m : ℕ). BeginsWith k (span_at t m).entries) later.1 (only-key k w.0 es (omega (arith, links-of.size, n.1)) w.1)
 
           here-inside : suc later.0 < length (columns t)
@@ -222,7 +217,7 @@ module _ {img : List ℕ} {d : TableRef} {L : Layout} {name : List ℕ} {t : Tab
           unfolding remove_plan
           left-plan = leave-rewrites L name t i (erase k es) stays
 
-          left-done : {free : ℕ} → free_count L.free ≡ free → {m : ℕ} {out : List ℕ} → SpanLeft img d.root page s.index m out
+          left-done : {free : ℕ} → free_count L.free ≡ free → {m : ℕ} {out : List ℕ} → SpanLeft img d.root page index m out
               → CarriedOut img L (remove_plan L name t k) (free + m) out
           left-done {free} e {m} {out} w =
               subst (λ q. CarriedOut img L q (free + m) out) (sym left-plan)
@@ -234,41 +229,41 @@ module _ {img : List ℕ} {d : TableRef} {L : Layout} {name : List ℕ} {t : Tab
 -- ---- What the calls ask for
 
 module _ {img scratch : List ℕ} {d : TableRef} {free : ℕ} {k : List ℕ} (h : RemoveReady img scratch d free k) (page : ℕ) (f : TargetIn img d k page)
-    (s : Spot) (g : SpottedOn img page d.sort k s) (there : s.there ≡ 0 → ⊥) where
+    (s : Result ℕ ℕ) (g : SpottedOn img page d.sort k s) (index : ℕ) (there : s ≡ Ok index) where
   pub unlink-ready : (x : Links) → LinksRead img page x → (x.prev ≡ 0 → ⊥) × (x.size ≡ 1) → {path : Path} → PathIn img d k true path
       → UnlinkReady img d.root page x path.pages
   unlink-ready x y n p =
-      record { rule = key_rule h.name; table = h.table; blocks = h.layout.free; place = _; is = unlink-of h.is k page f s g there x y n p }
+      record { rule = key_rule h.name; table = h.table; blocks = h.layout.free; place = _; is = unlink-of h.is k page f s g index there x y n p }
 
-  pub leave-ready : LeaveReady img scratch d.root page s.index
+  pub leave-ready : LeaveReady img scratch d.root page index
   leave-ready =
-      record { rule = key_rule h.name; table = h.table; blocks = h.layout.free; place = _; is = leave-of h.is k page f s g there; lent = h.lent }
+      record { rule = key_rule h.name; table = h.table; blocks = h.layout.free; place = _; is = leave-of h.is k page f s g index there; lent = h.lent }
 
   -- the pages of the span and the free ones are no more than the image has
   pages-few : length (span_at h.table (place h.is k)).conts + free ≤ 4096
-  pages-few = let o = (leave-of h.is k page f s g there).rewrite in omega (arith, all-few o, h.pages, o.standing.readable.small)
+  pages-few = let o = (leave-of h.is k page f s g index there).rewrite in omega (arith, all-few o, h.pages, o.standing.readable.small)
 
   pub few-gone : (x : Links) → LinksRead img page x → (x.prev ≡ 0 → ⊥) × (x.size ≡ 1) → {path : Path} → PathIn img d k true path → {n : ℕ} {out : List ℕ}
       → Unlinked img d.root page x path.pages n out → free + n ≤ 4098
-  few-gone x y n p u = omega (arith, pages-few, gone-few h.is k page f s g there x y n p u)
+  few-gone x y n p u = omega (arith, pages-few, gone-few h.is k page f s g index there x y n p u)
 
-  pub few-left : {n : ℕ} {out : List ℕ} → SpanLeft img d.root page s.index n out → free + n ≤ 4098
-  few-left w = omega (arith, pages-few, w.given _ _ _ _ (leave-of h.is k page f s g there))
+  pub few-left : {n : ℕ} {out : List ℕ} → SpanLeft img d.root page index n out → free + n ≤ 4098
+  few-left w = omega (arith, pages-few, w.given _ _ _ _ (leave-of h.is k page f s g index there))
 
 -- ---- The answers
 
-module _ {img : List ℕ} {d : TableRef} {free : ℕ} {k : List ℕ} (page : ℕ) (f : TargetIn img d k page) (s : Spot) (g : SpottedOn img page d.sort k s) where
-  pub not_there : s.there ≡ 0 → RemoveDone img d free k None img
-  not_there z = record { done = λ n e. absurd (none-some _ e); missing = λ e L name t a. (missing a k page f s g z, refl) }
+module _ {img : List ℕ} {d : TableRef} {free : ℕ} {k : List ℕ} (page : ℕ) (f : TargetIn img d k page) (s : Result ℕ ℕ) (g : SpottedOn img page d.sort k s) where
+  pub not_there : (index : ℕ) → s ≡ Err index → RemoveDone img d free k None img
+  not_there index z = record { done = λ n e. absurd (none-some _ e); missing = λ e L name t a. (missing a k page f s g index z, refl) }
 
-  module _ (there : s.there ≡ 0 → ⊥) (x : Links) (y : LinksRead img page x) where
+  module _ (index : ℕ) (there : s ≡ Ok index) (x : Links) (y : LinksRead img page x) where
     was-there : {n : ℕ} {out : List ℕ} → ((L : Layout) (name : List ℕ) (t : Table) → TableAt img d L name t → free_count L.free ≡ free → CarriedOut img L (remove_plan L name t k) n out)
         → RemoveDone img d free k (Some n) out
-    was-there h = record { done = λ m e L name t a c. (found a k page f s g there, told (h L name t a c) e); missing = λ e. absurd (none-some _ (sym e)) }
+    was-there h = record { done = λ m e L name t a c. (found a k page f s g index there, told (h L name t a c) e); missing = λ e. absurd (none-some _ (sym e)) }
 
     pub went : (x.prev ≡ 0 → ⊥) × (x.size ≡ 1) → {path : Path} → PathIn img d k true path → {n : ℕ} {out : List ℕ} → Unlinked img d.root page x path.pages n out
         → RemoveDone img d free k (Some (free + n)) out
-    went z p u = was-there (λ L name t a e. gone-done a k page f s g there x y z p u e)
+    went z p u = was-there (λ L name t a e. gone-done a k page f s g index there x y z p u e)
 
-    pub stayed : (x.prev ≡ 0) ⊎ (x.size ≡ 1 → ⊥) → {n : ℕ} {out : List ℕ} → SpanLeft img d.root page s.index n out → RemoveDone img d free k (Some (free + n)) out
-    stayed z w = was-there (λ L name t a e. left-done a k page f s g there x y z e w)
+    pub stayed : (x.prev ≡ 0) ⊎ (x.size ≡ 1 → ⊥) → {n : ℕ} {out : List ℕ} → SpanLeft img d.root page index n out → RemoveDone img d free k (Some (free + n)) out
+    stayed z w = was-there (λ L name t a e. left-done a k page f s g index there x y z e w)

@@ -1,9 +1,11 @@
 -- The ways through `unlink`: what it writes is what the text writes.
-use Prim.Native.Nat.{ℕ, zero, suc, ◌+◌, ◌-◌, ◌≤◌, ◌<◌, min}
+use Prim.Native.Nat.{ℕ, zero, suc, ◌+◌, ◌-◌, ◌≤◌, ◌<◌}
 use native.Mathlib.Omega.{arith}
 use mathlib.Core.Path.{◌≡◌, refl, ap, ap₂, sym, ◌∙◌, subst}
 use mathlib.Core.List.{List, [], ◌∷◌, ◌++◌, map, append-nil}
 use lib.ListN.{length, get_or, take, drop, length-append, length-map}
+use Rattle.std.specs.Prelude.{Option, Some, None, is_some, option_to_list}
+use Rattle.std.specs.Int.{from_bool}
 use Rattle.blockfile.specs.Bytes.{Write, on, word32, write, apply, Every, gather}
 use Rattle.blockfile.specs.Layout.{Span, Tower, Column, Table, Block, columns, spans_of, towers_of, entries_of}
 use Rattle.blockfile.specs.Order.{KeyRule}
@@ -36,9 +38,14 @@ use Rattle.edit.proofs.Plannings.{prev-none, prev-some}
 use Rattle.edit.proofs.Stands.{besides, in_hand, span-borne, past-inside, past-pages}
 use Rattle.remove.specs.declared.tower.OwnTower.{OwnTower}
 use Rattle.remove.specs.declared.unlink.Going.{Going}
-use Rattle.remove.specs.Gone.{page_in, SpanInHand, GoneReady, GaveGone}
+use Rattle.remove.specs.Gone.{SpanInHand, GoneReady, GaveGone}
 use Rattle.remove.specs.Towers.{FoundTower}
 use Rattle.remove.specs.Unlinks.{around_writes, SpansReady, lowered, CountsReady, GoneAt, unlink_writes, gone_count, GoingAt, LetGo, UnlinkOf, Unlinked}
+
+-- a tower's page is counted once
+pub one_page : (o : Option ℕ) → from_bool (is_some o) ≡ length (option_to_list o)
+one_page None = refl
+one_page (Some n) = refl
 
 -- ---- `link_spans`
 
@@ -70,10 +77,6 @@ first-inside (s ∷ ss) e z = e.0
 gathered : {A B : Type 0} (f : B → List Write) (g : A → B) (xs : List A) → gather (λ x. f (g x)) xs ≡ gather f (map g xs)
 gathered f g [] = refl
 gathered f g (x ∷ xs) = ap (λ (l : List Write). f (g x) ++ l) (gathered f g xs)
-
-length-page : (n : ℕ) → length (page_in n) ≡ min 1 n
-length-page zero = refl
-length-page (suc n) = omega arith
 
 module _ (t : Table) (k : ℕ) (inside : suc k < length (columns t)) where
   many-spans : length (spans_of (columns t)) ≡ length (columns t)
@@ -167,8 +170,8 @@ module _ {img : List ℕ} {x : Going} {w : OwnTower} {path : List ℕ} {r : KeyR
     pub levels-ready : {out : List ℕ} → length out ≡ length img → Linkable out before w.height
     levels-ready {out} e = before-linkable reading (suc k) w.height h.tower.low before_at out e
 
-  one-tower : length (towers_at t (suc k)) ≡ min 1 w.page
-  one-tower = sym (length-map (towers_at t (suc k)) (λ (u : Tower). u.page)) ∙ ap length h.tower.pages ∙ length-page w.page
+  one-tower : length (towers_at t (suc k)) ≡ length (option_to_list w.page)
+  one-tower = sym (length-map (towers_at t (suc k)) (λ (u : Tower). u.page)) ∙ ap length h.tower.pages
 
   pub counts-ready : {out : List ℕ} → length out ≡ length img → CountsReady out x w.page
   counts-ready e =
@@ -185,7 +188,7 @@ module _ {img : List ℕ} {x : Going} {w : OwnTower} {path : List ℕ} {r : KeyR
   -- ---- What is written
 
   given-coded : (draw (span_at t (suc k)).conts 0 ((span_at t (suc k)).page ∷ map (λ u. u.page) (towers_at t (suc k))) bs).writes
-      ≡ (give_many ((span_at t (suc k)).conts ++ (x.page ∷ page_in w.page)) bs).writes
+      ≡ (give_many ((span_at t (suc k)).conts ++ (x.page ∷ option_to_list w.page)) bs).writes
   unfolding draw
   given-coded =
       let z : 0 - length (span_at t (suc k)).conts ≡ 0 = omega arith in
@@ -199,9 +202,9 @@ module _ {img : List ℕ} {x : Going} {w : OwnTower} {path : List ℕ} {r : KeyR
       gathered (relink (without t (suc k)) (suc k)) (λ u. u.height) (towers_at t (suc k)) ∙ ap (gather (relink (without t (suc k)) (suc k))) h.tower.heights
       ∙ go w.page h.tower.flat ∙ sym (gone-links t k g.inside w.height before w.after b h.tower.after)
     where
-      go : (n : ℕ) → (n ≡ 0 → w.height ≡ 0) → gather (relink (without t (suc k)) (suc k)) (map (λ _. w.height) (page_in n)) ≡ relink (without t (suc k)) (suc k) w.height
-      go zero z = ap (relink (without t (suc k)) (suc k)) (sym (z refl))
-      go (suc n) z = append-nil (relink (without t (suc k)) (suc k) w.height)
+      go : (o : Option ℕ) → (o ≡ None → w.height ≡ 0) → gather (relink (without t (suc k)) (suc k)) (map (λ _. w.height) (option_to_list o)) ≡ relink (without t (suc k)) (suc k) w.height
+      go None z = ap (relink (without t (suc k)) (suc k)) (sym (z refl))
+      go (Some n) z = append-nil (relink (without t (suc k)) (suc k) w.height)
 
   counts-coded : counts_on (without t (suc k)) ∷ [] ≡ lowered x w.page
   unfolding counts
@@ -209,7 +212,7 @@ module _ {img : List ℕ} {x : Going} {w : OwnTower} {path : List ℕ} {r : KeyR
       let a : length (entries_of (without t (suc k))) ≡ x.list.size - x.links.size
       = size-left t k g.inside ∙ (λ j. sym h.list.size j - sym h.links.size j) in
       let b : length (columns (without t (suc k))) ≡ x.list.spans - 1 = omega (arith, h.list.spans, unlinked-spans t k g.inside) in
-      let c : length (towers_of (columns (without t (suc k)))) ≡ x.list.levels - min 1 w.page = omega (arith, h.list.levels, one-tower, unlinked-levels t k g.inside) in
+      let c : length (towers_of (columns (without t (suc k)))) ≡ x.list.levels - length (option_to_list w.page) = omega (arith, h.list.levels, one-tower, unlinked-levels t k g.inside) in
       λ j. counts_at (sym g.at j) (a j) (b j) (c j) ∷ []
 
   spans-coded : (ws : List Write) → map next_link (take 1 (drop (suc k - 1) (spans_in (without t (suc k))))) ++ (map prev_link (take 1 (drop (suc k) (spans_in (without t (suc k))))) ++ ws)
@@ -230,7 +233,7 @@ module _ {img : List ℕ} {x : Going} {w : OwnTower} {path : List ℕ} {r : KeyR
     written : {n : ℕ} {out1 out2 out3 out4 : List ℕ} → GaveGone img x.links.first x.page w.page n out1 → out2 ≡ apply (around_writes x.links.prev x.links.next) out1
         → out3 ≡ apply (link_writes before w.after w.height) out2 → out4 ≡ apply (lowered x w.page) out3 → out4 ≡ apply (unlink_writes t k bs) img
     written a b c d =
-        let gs : List Write = (give_many ((span_at t (suc k)).conts ++ (x.page ∷ page_in w.page)) bs).writes in
+        let gs : List Write = (give_many ((span_at t (suc k)).conts ++ (x.page ∷ option_to_list w.page)) bs).writes in
         let ss : List Write = around_writes x.links.prev x.links.next in
         let ls : List Write = link_writes before w.after w.height in
         d ∙ ap (apply (lowered x w.page)) (c ∙ ap (apply ls) (b ∙ ap (apply ss) (a.image span)))

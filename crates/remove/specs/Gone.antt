@@ -1,15 +1,10 @@
 -- The pages of a span that goes, given back.
-use Rattle.std.specs.Prelude.{ℕ, zero, suc, ◌+◌, min, ◌≡◌, List, [], ◌∷◌, ◌++◌, map, length}
+use Rattle.std.specs.Prelude.{ℕ, ◌+◌, ◌≡◌, List, [], ◌∷◌, ◌++◌, map, length, Option, Some, option_to_list}
 use Rattle.blockfile.specs.Bytes.{pg, apply, first_of}
 use Rattle.blockfile.specs.Fields.{AreConts}
 use Rattle.blockfile.specs.Free.{give_many}
 use Rattle.entries.specs.Places.{IsPage}
 use Rattle.draw.specs.Hands.{InHand}
-
--- the page n, none for 0
-abbrev pub page_in : (n : ℕ) → List ℕ
-page_in zero = []
-page_in (suc n) = suc n ∷ []
 
 -- the continuation pages from `start` on are in hand, and the span's page
 pub record SpanInHand (img : List ℕ) (start page : ℕ) : Type 0 where
@@ -18,11 +13,11 @@ pub record SpanInHand (img : List ℕ) (start page : ℕ) : Type 0 where
   pub first : start ≡ first_of conts
   pub linked : AreConts conts (map (pg img) conts)
 
-pub record GoneReady (img : List ℕ) (start page tower : ℕ) : Type 0 where
+pub record GoneReady (img : List ℕ) (start page : ℕ) (tower : Option ℕ) : Type 0 where
   pub span : SpanInHand img start page
-  pub tall : (tower ≡ 0 → ⊥) → IsPage img tower
+  pub tall : (n : ℕ) → tower ≡ Some n → IsPage img n
 
 -- all of them, n pages, were given back
-pub record GaveGone (img : List ℕ) (start page tower n : ℕ) (out : List ℕ) : Type 0 where
-  pub image : (h : SpanInHand img start page) → out ≡ apply (give_many (h.conts ++ (page ∷ page_in tower)) h.hand.free).writes img
-  pub given : (h : SpanInHand img start page) → n ≡ length h.conts + 1 + min 1 tower
+pub record GaveGone (img : List ℕ) (start page : ℕ) (tower : Option ℕ) (n : ℕ) (out : List ℕ) : Type 0 where
+  pub image : (h : SpanInHand img start page) → out ≡ apply (give_many (h.conts ++ (page ∷ option_to_list tower)) h.hand.free).writes img
+  pub given : (h : SpanInHand img start page) → n ≡ length h.conts + 1 + length (option_to_list tower)

@@ -1,5 +1,5 @@
 -- A span left with its other entries: what is asked for, and what is left.
-use Rattle.std.specs.Prelude.{ℕ, ◌+◌, ◌≤◌, ◌≡◌, List, [], length}
+use Rattle.std.specs.Prelude.{ℕ, ◌+◌, ◌≤◌, ◌≡◌, true, false, List, [], length}
 use Rattle.blockfile.specs.Bytes.{apply}
 use Rattle.blockfile.specs.Layout.{Entry, Table, Block}
 use Rattle.blockfile.specs.Order.{KeyRule}
@@ -9,7 +9,7 @@ use Rattle.edit.specs.Rewrites.{changed, writes_for, RewriteOf}
 
 -- the entry at the index gives way, and none comes
 abbrev pub taken_out : (index : ℕ) → Change
-taken_out j = record { index = j; drops = 1; adds = 0 }
+taken_out j = record { index = j; drops = true; adds = false }
 
 -- the entries of the span at place i without the one at the index
 abbrev pub others : Table → (i index : ℕ) → List Entry

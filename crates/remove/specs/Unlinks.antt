@@ -1,5 +1,5 @@
 -- A span, not the first, unlinked and given back: what is asked for, and what is left.
-use Rattle.std.specs.Prelude.{ℕ, suc, ◌+◌, ◌-◌, ◌≤◌, ◌<◌, min, ◌≡◌, List, [], ◌∷◌, ◌++◌, map, length}
+use Rattle.std.specs.Prelude.{ℕ, suc, ◌+◌, ◌-◌, ◌≤◌, ◌<◌, ◌≡◌, List, [], ◌∷◌, ◌++◌, map, length, Option, option_to_list}
 use Rattle.blockfile.specs.Bytes.{Write, on, word32, apply}
 use Rattle.blockfile.specs.Layout.{Table, Block, columns}
 use Rattle.blockfile.specs.Order.{KeyRule}
@@ -29,14 +29,14 @@ pub record SpansReady (img : List ℕ) (p n : ℕ) : Type 0 where
 -- ---- Counts
 
 -- the counts without the span's keys, the span and its tower
-abbrev pub lowered : Going → (tower : ℕ) → List Write
-lowered x tower = counts_at x.root (x.list.size - x.links.size) (x.list.spans - 1) (x.list.levels - min 1 tower) ∷ []
+abbrev pub lowered : Going → (tower : Option ℕ) → List Write
+lowered x tower = counts_at x.root (x.list.size - x.links.size) (x.list.spans - 1) (x.list.levels - length (option_to_list tower)) ∷ []
 
-pub record CountsReady (img : List ℕ) (x : Going) (tower : ℕ) : Type 0 where
+pub record CountsReady (img : List ℕ) (x : Going) (tower : Option ℕ) : Type 0 where
   pub root : Inside img x.root 16 12
   pub size : x.links.size ≤ x.list.size
   pub spans : 1 ≤ x.list.spans
-  pub levels : min 1 tower ≤ x.list.levels
+  pub levels : length (option_to_list tower) ≤ x.list.levels
 
 -- ---- All of it
 

@@ -8,16 +8,13 @@ use edit::fields::{Links, read_links};
 use edit::plan::make_plan;
 use search::path::descend;
 use search::table::{TableRef, find_from};
-use stage::change::{Change, find_spot};
+use stage::change::{Change, NewEntry, find_spot};
 
 // Whether a span goes with an entry of it: it is not the first, and it has no other.
 fn goes(links: Links) -> bool
     ensures { Goes links result }
 {
-    if links.prev == 0 {
-        return false;
-    }
-    if links.size == 1 { true } else { false }
+    links.prev != 0 && links.size == 1
 }
 
 // Takes the entry at the index out of the span on `page` of the table with the skip-list page `root`. The others never reach further
@@ -28,13 +25,17 @@ fn leave(image: &mut [u8], scratch: &mut [u8], root: usize, page: usize, index: 
 {
     let change = Change {
         index,
-        drops: 1,
-        adds: 0,
+        drops: true,
+        adds: false,
     };
     let none = [0u8; 0];
+    let new = NewEntry {
+        key: &none,
+        value: &none,
+    };
     let base = image.len() / 1024;
     let plan = make_plan(image, root, page, change, 0, 0, base);
-    carry_flat(image, scratch, plan, change, &none, &none)
+    carry_flat(image, scratch, plan, change, new)
 }
 
 // Removes the key from the table; `free` pages are free. Answers how many are free after it; if the key is not there it is none, and
@@ -53,16 +54,15 @@ pub fn remove(
     let path = descend(image, table, key, true);
     let page = find_from(image, table, path.pages[0] as usize, key);
     let sort = table.sort;
-    let spot = find_spot(image, page, sort, key);
-    if spot.there == 0 {
+    let Ok(index) = find_spot(image, page, sort, key) else {
         return None;
-    }
+    };
     let links = read_links(image, page);
     if goes(links) {
         let pages = path.pages;
         let left = free + unlink(image, table.root, page, links, &pages);
         return Some(left);
     }
-    let left = free + leave(image, scratch, table.root, page, spot.index);
+    let left = free + leave(image, scratch, table.root, page, index);
     Some(left)
 }

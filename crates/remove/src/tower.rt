@@ -5,10 +5,10 @@ ghost use Rattle.remove.specs.Towers.{FoundTower};
 use links::around::{get_entries, tower_of};
 use pages::read::get16;
 
-// A span's tower: its page and height, 0 for none; for each of its levels the next tower behind it.
+// A span's tower: its page, if there is one, and its height, 0 for none; for each of its levels the next tower behind it.
 #[derive(Clone, Copy)]
 pub struct OwnTower {
-    pub page: usize,
+    pub page: Option<usize>,
     pub height: usize,
     pub after: [usize; 252],
 }
@@ -19,18 +19,17 @@ pub fn find_tower(image: &[u8], path: &[u16; 252], page: usize) -> OwnTower
     ensures { FoundTower image.now page path.now result }
 {
     let mut after = [0usize; 252];
-    let tower = tower_of(image, path, page);
-    if tower == 0 {
+    let Some(tower) = tower_of(image, path, page) else {
         return OwnTower {
-            page: 0,
+            page: None,
             height: 0,
             after,
         };
-    }
+    };
     let height = get16(image, tower, 10);
     get_entries(image, tower, height, &mut after);
     OwnTower {
-        page: tower,
+        page: Some(tower),
         height,
         after,
     }

@@ -5,7 +5,6 @@ ghost use Rattle.remove.specs.Unlinks.{SpansReady, around_writes, CountsReady, l
 
 use crate::gone::give_gone;
 use crate::tower::{OwnTower, find_tower};
-use edit::counts::at_most_one;
 use edit::fields::{Links, SkipList, read_list};
 use links::around::towers_before;
 use links::write::{link_levels, put_counts};
@@ -31,14 +30,14 @@ fn link_spans(image: &mut [u8], prev: usize, next: usize)
     }
 }
 
-// Writes the counts of the table without the span and its tower.
-fn lower_counts(image: &mut [u8], going: Going, tower: usize)
+// Writes the counts of the table without the span and its tower, if it has one.
+fn lower_counts(image: &mut [u8], going: Going, tower: Option<usize>)
     requires { CountsReady image.old going tower }
     ensures { image.new ≡ apply (lowered going tower) image.old }
 {
     let size = going.list.size - going.links.size;
     let spans = going.list.spans - 1;
-    let levels = going.list.levels - at_most_one(tower);
+    let levels = going.list.levels - usize::from(tower.is_some());
     put_counts(image, going.root, size, spans, levels)
 }
 

@@ -2,10 +2,13 @@
 use Prim.Native.Nat.{ℕ, ◌+◌, ◌≤◌, ◌<◌}
 use native.Mathlib.Omega.{arith}
 use native.Mathlib.Decide.{dec_lt}
-use mathlib.Core.Path.{◌≡◌, refl, sym, subst}
+use mathlib.Core.Path.{◌≡◌, refl, ap, sym, subst}
 use mathlib.Core.Logic.{by_cases}
+use mathlib.Core.Bool.{true, false}
 use mathlib.Core.List.{List, ◌∷◌}
 use lib.ListN.{drop}
+use Rattle.std.specs.Int.{from_bool}
+use Rattle.std.proofs.lemmas.Bool.{false_from_ne_true}
 use Rattle.blockfile.specs.Layout.{Entry}
 use Rattle.entries.specs.declared.place.Place.{Place}
 use Rattle.entries.specs.declared.place.Sizes.{Sizes}
@@ -17,7 +20,7 @@ use Rattle.stage.specs.declared.change.Change.{Change}
 use Rattle.stage.specs.declared.change.Cursor.{Cursor}
 use Rattle.stage.specs.declared.change.Next.TheVariants.{New, Old}
 use Rattle.stage.specs.Changes.{spliced, Fits, PassedOver, Stands, Has, Onward, Turned, Kept, NextOf}
-use Rattle.stage.proofs.Splices.{FromOn, from_on, splice-before, splice-new, splice-old}
+use Rattle.stage.proofs.Splices.{bit, FromOn, from_on, splice-before, splice-new, splice-old}
 
 -- ---- pass
 
@@ -41,22 +44,22 @@ start-stands x c f =
 
 module _ {img : List ℕ} {c : Change} {es : List Entry} {u : Cursor} (s : Stands img c es u) where
   -- nothing gives way here
-  pub reach_here : (u.index ≡ c.index → c.drops ≡ 0) → Onward img c es u u.at
+  pub reach_here : (u.index ≡ c.index → c.drops ≡ false) → Onward img c es u u.at
   reach_here n =
       record {
         old = s.old;
         before = λ h. s.before (omega arith);
-        here = λ h. let a : s.old ≡ u.index = s.before (omega arith) in let b : c.drops ≡ 0 = n h in omega arith;
+        here = λ h. let a : s.old ≡ u.index = s.before (omega arith) in let b : from_bool c.drops ≡ 0 = ap from_bool (n h) in omega arith;
         behind = s.behind;
         along = s.along;
       }
 
-  module _ (h : u.index ≡ c.index) (d : c.drops ≡ 0 → ⊥) where
+  module _ (h : u.index ≡ c.index) (d : c.drops ≡ true) where
     old-is : s.old ≡ u.index
     old-is = s.before (omega arith)
 
     dropped : FromOn es s.old
-    dropped = from_on es s.old (let a : s.old ≡ u.index = old-is in omega (arith, s.fits.inside, s.fits.drops))
+    dropped = from_on es s.old (let a : s.old ≡ u.index = old-is in omega (arith, s.fits.inside, ap from_bool d))
 
     pub dropped-there : EntryThere img u.at
     dropped-there = record { first = dropped.first; more = drop (s.old + 1) es; along = subst (Along img u.at) dropped.is s.along }
@@ -69,7 +72,7 @@ module _ {img : List ℕ} {c : Change} {es : List Entry} {u : Cursor} (s : Stand
         record {
           old = s.old + 1;
           before = λ l. absurd (omega arith);
-          here = λ l. omega (arith, s.fits.drops);
+          here = λ l. omega (arith, ap from_bool d);
           behind = λ l. absurd (omega arith);
           along = o.on dropped.first (drop (s.old + 1) es) dropped-there.along;
         }
@@ -78,9 +81,10 @@ module _ {img : List ℕ} {c : Change} {es : List Entry} {u : Cursor} (s : Stand
 
 module _ {img : List ℕ} {c : Change} {es : List Entry} {u : Cursor} {p : Place} (s : Stands img c es u) (o : Onward img c es u p) where
   -- the entry that comes is at the cursor
-  pub next-new : u.index ≡ c.index → c.adds ≡ 1 → (e : Entry) → Turned img c e es u e (record { index = u.index + 1; at = p })
+  pub next-new : u.index ≡ c.index → c.adds ≡ true → (e : Entry) → Turned img c e es u e (record { index = u.index + 1; at = p })
   next-new h a e =
-      let q : o.old ≡ c.index + c.drops = o.here h in
+      let q : o.old ≡ c.index + from_bool c.drops = o.here h in
+      let one : from_bool c.adds ≡ 1 = ap from_bool a in
       record {
         is = subst (λ (i : ℕ). drop i (spliced c e es) ≡ e ∷ drop (i + 1) (spliced c e es)) (sym h) (splice-new c e es s.fits a);
         index = refl;
@@ -93,19 +97,19 @@ module _ {img : List ℕ} {c : Change} {es : List Entry} {u : Cursor} {p : Place
         };
       }
 
-  module _ (n : u.index ≡ c.index → c.adds ≡ 1 → ⊥) (more : Has c es u 1) where
+  module _ (n : u.index ≡ c.index → c.adds ≡ true → ⊥) (more : Has c es u 1) where
     -- an old entry is at the cursor: before the index, or at or behind it
-    place-cases : {X : Type 0} → (u.index < c.index → o.old ≡ u.index → X) → (c.index + c.adds ≤ u.index → o.old + c.adds ≡ u.index + c.drops → X) → X
+    place-cases : {X : Type 0} → (u.index < c.index → o.old ≡ u.index → X) → (c.index + from_bool c.adds ≤ u.index → o.old + from_bool c.adds ≡ u.index + from_bool c.drops → X) → X
     place-cases f g =
         by_cases (dec_lt u.index c.index) (λ h. f h (o.before h))
-        (λ h. by_cases (dec_lt c.index u.index) (λ l. g (omega (arith, s.fits.adds)) (o.behind l))
+        (λ h. by_cases (dec_lt c.index u.index) (λ l. g (omega (arith, bit c.adds)) (o.behind l))
         (λ l. let q : u.index ≡ c.index = omega arith in
-        let none : c.adds ≡ 0 = none-comes q in
-        let r : o.old ≡ c.index + c.drops = o.here q in
+        let none : from_bool c.adds ≡ 0 = none-comes q in
+        let r : o.old ≡ c.index + from_bool c.drops = o.here q in
         g (omega arith) (omega arith)))
       where
-        none-comes : u.index ≡ c.index → c.adds ≡ 0
-        none-comes q = by_cases (dec_lt c.adds 1) (λ k. omega arith) (λ k. absurd (n q (omega (arith, s.fits.adds))))
+        none-comes : u.index ≡ c.index → from_bool c.adds ≡ 0
+        none-comes q = ap from_bool (false_from_ne_true c.adds (n q))
 
     kept : FromOn es o.old
     kept = from_on es o.old (place-cases (λ h q. omega (arith, s.fits.inside)) (λ h q. omega arith))

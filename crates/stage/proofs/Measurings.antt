@@ -5,6 +5,7 @@ use mathlib.Core.Path.{◌≡◌, ap, sym, ◌∙◌, subst}
 use mathlib.Core.List.{List, []}
 use lib.ListN.{length, take, drop, replicate, length-replicate, length-drop}
 use lib.Seq.{take_all}
+use Rattle.std.specs.Int.{from_bool}
 use Rattle.blockfile.specs.Bytes.{pg, be16}
 use Rattle.blockfile.specs.Layout.{Entry, entries_from, lens_start, entries_end}
 use Rattle.pages.specs.Places.{Number}
@@ -18,7 +19,7 @@ use Rattle.stage.specs.declared.change.Next.TheVariants.{New, Old}
 use Rattle.stage.specs.declared.measure.Part.{Part}
 use Rattle.stage.specs.Changes.{spliced, Fits, Stands, Has, Going, Kept, NextOf}
 use Rattle.stage.specs.Parts.{far, Sized, Measures, EntryMeasured, Gone, PartMeasured, Measurable, MeasuredOn}
-use Rattle.stage.proofs.Splices.{length-spliced}
+use Rattle.stage.proofs.Splices.{bit, length-spliced}
 use Rattle.stage.proofs.Cursors.{start-stands}
 use Rattle.stage.proofs.Sections.{entry-sized, sized-end, gone-start, gone-next}
 
@@ -71,7 +72,7 @@ module _ {img : List ℕ} {c : Change} {both n : ℕ} {u v : Cursor} {end i : �
       }
 
   pub measuring-near : Going img c u n → end < far
-  measuring-near p = omega (arith, m.most, m.near, p.has, p.stands.fits.few, p.stands.fits.adds)
+  measuring-near p = omega (arith, m.most, m.near, p.has, p.stands.fits.few, bit c.adds)
 
   pub measuring-end : Going img c u n → n ≤ i → PartMeasured img c u both n (record { end = end; after = v })
   measuring-end p h =
@@ -95,8 +96,6 @@ module _ {img : List ℕ} {page : ℕ} {c : Change} {half : ℕ} (m : Measurable
   any-fits : (x : SpanOn img page) → Fits c x.linked.span.entries
   any-fits x =
       record {
-        drops = m.fits.drops;
-        adds = m.fits.adds;
         inside = omega (arith, m.fits.inside, as_many x);
         few = omega (arith, m.fits.few, as_many x);
       }
@@ -111,16 +110,14 @@ module _ {img : List ℕ} {page : ℕ} {c : Change} {half : ℕ} (m : Measurable
   first-has x = omega (arith, m.has, first-index, as_many x)
 
   -- the code's sums fit
-  pub size_room : (size : ℕ) → Number (be16 (pg img page) 18) 65536 size → half + c.drops ≤ size + c.adds
+  pub size_room : (size : ℕ) → Number (be16 (pg img page) 18) 65536 size → half + from_bool c.drops ≤ size + from_bool c.adds
   size_room size z = omega (arith, m.has, z.is, span-size m.span)
 
   pub first-going : Going img c u half
   first-going = record { entries = m.span.linked.span.entries; stands = first-stands m.span; has = first-has m.span }
 
-  module _ {both : ℕ} (a : Part) (f : PartMeasured img c u both half a) (size : ℕ) (z : Number (be16 (pg img page) 18) 65536 size) where
-    abbrev rest : ℕ
-    rest = size + c.adds - c.drops - half
-
+  module _ {both : ℕ} (a : Part) (f : PartMeasured img c u both half a) (size : ℕ) (z : Number (be16 (pg img page) 18) 65536 size)
+      (rest : ℕ) (q : rest ≡ size + from_bool c.adds - from_bool c.drops - half) where
     first-gone : (x : SpanOn img page) (e : Entry) → Sized e both → Gone img c e x.linked.span.entries u half a.after a.end
     first-gone x e s = f.is e x.linked.span.entries s (first-stands x) (first-has x)
 

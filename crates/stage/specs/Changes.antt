@@ -1,5 +1,6 @@
 -- A change of a span's entries, and cursors in the list that it makes.
-use Rattle.std.specs.Prelude.{ℕ, ◌+◌, ◌≤◌, ◌<◌, ◌≡◌, Bool, true, false, List, [], ◌∷◌, ◌++◌, length, take, drop}
+use Rattle.std.specs.Prelude.{ℕ, ◌+◌, ◌≤◌, ◌<◌, ◌≡◌, Bool, true, false, List, [], ◌∷◌, ◌++◌, length, take, drop, Result, Ok, Err, is_ok}
+use Rattle.std.specs.Int.{from_bool}
 use Rattle.std.proofs.Math.Option.{none, some}
 use Rattle.blockfile.specs.Layout.{Entry}
 use Rattle.blockfile.specs.Order.{KeyRule, find, insert, erase}
@@ -7,7 +8,6 @@ use Rattle.order.specs.declared.sort.Sort.{Sort}
 use Rattle.entries.specs.declared.place.Place.{Place}
 use Rattle.entries.specs.declared.place.Sizes.{Sizes}
 use Rattle.search.specs.Spans.{SpanBy, Along, EntryAt}
-use Rattle.stage.specs.declared.change.Spot.{Spot}
 use Rattle.stage.specs.declared.change.Change.{Change}
 use Rattle.stage.specs.declared.change.Cursor.{Cursor}
 use Rattle.stage.specs.declared.change.Next.{Next}
@@ -15,28 +15,37 @@ use Rattle.stage.specs.declared.change.Next.TheVariants.{New, Old}
 
 -- the entries after the change, e being the one that comes
 unfoldable pub spliced : Change → Entry → List Entry → List Entry
-spliced c e es = take c.index es ++ (take c.adds (e ∷ []) ++ drop (c.index + c.drops) es)
+spliced c e es = take c.index es ++ (take (from_bool c.adds) (e ∷ []) ++ drop (c.index + from_bool c.drops) es)
 
 -- the change is one of these entries
 pub record Fits (c : Change) (es : List Entry) : Type 0 where
-  pub drops : c.drops ≤ 1
-  pub adds : c.adds ≤ 1
-  pub inside : c.index + c.drops ≤ length es
+  pub inside : c.index + from_bool c.drops ≤ length es
   pub few : length es < 65536
 
 -- ---- Where a key belongs
 
--- the spot of k in es: put and remove are changes there
-pub record Spotted (r : KeyRule) (k : List ℕ) (es : List Entry) (s : Spot) : Type 0 where
-  pub bit : s.there ≤ 1
-  pub inside : s.index + s.there ≤ length es
-  pub few : length es < 65536
-  pub put : (v : List ℕ) → insert r k v es ≡ spliced (record { index = s.index; drops = s.there; adds = 1 }) (record { key = k; value = v }) es
-  pub remove : (e : Entry) → erase k es ≡ spliced (record { index = s.index; drops = s.there; adds = 0 }) e es
-  pub found : s.there ≡ 1 → (v : List ℕ) × (find k es ≡ some v)
-  pub missing : s.there ≡ 0 → find k es ≡ none
+-- the index of a spot, whether or not the key is there
+abbrev pub spot_index : Result ℕ ℕ → ℕ
+spot_index (Ok i) = i
+spot_index (Err i) = i
 
-pub record SpottedOn (img : List ℕ) (page : ℕ) (sort : Sort) (k : List ℕ) (s : Spot) : Type 0 where
+-- the changes that put and remove make at a spot
+abbrev pub put_at : Result ℕ ℕ → Change
+put_at s = record { index = spot_index s; drops = is_ok s; adds = true }
+
+abbrev pub remove_at : Result ℕ ℕ → Change
+remove_at s = record { index = spot_index s; drops = is_ok s; adds = false }
+
+-- the spot of k in es: put and remove are changes there
+pub record Spotted (r : KeyRule) (k : List ℕ) (es : List Entry) (s : Result ℕ ℕ) : Type 0 where
+  pub inside : spot_index s + from_bool (is_ok s) ≤ length es
+  pub few : length es < 65536
+  pub put : (v : List ℕ) → insert r k v es ≡ spliced (put_at s) (record { key = k; value = v }) es
+  pub remove : (e : Entry) → erase k es ≡ spliced (remove_at s) e es
+  pub found : (i : ℕ) → s ≡ Ok i → (v : List ℕ) × (find k es ≡ some v)
+  pub missing : (i : ℕ) → s ≡ Err i → find k es ≡ none
+
+pub record SpottedOn (img : List ℕ) (page : ℕ) (sort : Sort) (k : List ℕ) (s : Result ℕ ℕ) : Type 0 where
   pub is : (x : SpanBy img page sort) → Spotted x.on.rule k x.on.linked.span.entries s
 
 -- ---- Cursors
@@ -51,12 +60,12 @@ pub record Stands (img : List ℕ) (c : Change) (es : List Entry) (u : Cursor) :
   pub fits : Fits c es
   pub old : ℕ
   pub before : u.index ≤ c.index → old ≡ u.index
-  pub behind : c.index < u.index → old + c.adds ≡ u.index + c.drops
+  pub behind : c.index < u.index → old + from_bool c.adds ≡ u.index + from_bool c.drops
   pub along : Along img u.at (drop old es)
 
 -- n entries are left from the cursor on
 abbrev pub Has : Change → List Entry → Cursor → ℕ → Type 0
-Has c es u n = u.index + n + c.drops ≤ length es + c.adds
+Has c es u n = u.index + n + from_bool c.drops ≤ length es + from_bool c.adds
 
 -- the cursor is in such a list, and there are n entries from it on
 pub record Going (img : List ℕ) (c : Change) (u : Cursor) (n : ℕ) : Type 0 where
@@ -68,8 +77,8 @@ pub record Going (img : List ℕ) (c : Change) (u : Cursor) (n : ℕ) : Type 0 w
 pub record Onward (img : List ℕ) (c : Change) (es : List Entry) (u : Cursor) (at : Place) : Type 0 where
   pub old : ℕ
   pub before : u.index < c.index → old ≡ u.index
-  pub here : u.index ≡ c.index → old ≡ c.index + c.drops
-  pub behind : c.index < u.index → old + c.adds ≡ u.index + c.drops
+  pub here : u.index ≡ c.index → old ≡ c.index + from_bool c.drops
+  pub behind : c.index < u.index → old + from_bool c.adds ≡ u.index + from_bool c.drops
   pub along : Along img at (drop old es)
 
 pub record Reached (img : List ℕ) (c : Change) (u : Cursor) (at : Place) : Type 0 where
@@ -77,8 +86,8 @@ pub record Reached (img : List ℕ) (c : Change) (u : Cursor) (at : Place) : Typ
 
 -- r tells whether the entry at the cursor is the one that comes
 pub record IsNew (c : Change) (u : Cursor) (r : Bool) : Type 0 where
-  pub yes : r ≡ true → (u.index ≡ c.index) × (c.adds ≡ 1)
-  pub other : r ≡ false → u.index ≡ c.index → c.adds ≡ 1 → ⊥
+  pub yes : r ≡ true → (u.index ≡ c.index) × (c.adds ≡ true)
+  pub other : r ≡ false → u.index ≡ c.index → c.adds ≡ true → ⊥
 
 -- x is the entry of the list at the cursor u, and v is the cursor behind it
 pub record Turned (img : List ℕ) (c : Change) (e : Entry) (es : List Entry) (u : Cursor) (x : Entry) (v : Cursor) : Type 0 where

@@ -1,5 +1,6 @@
 -- Parts of the list that a change makes: where they end, and their bytes.
 use Rattle.std.specs.Prelude.{ℕ, ◌+◌, ◌-◌, ◌≤◌, ◌<◌, ◌≡◌, List, [], ◌∷◌, ◌++◌, length, take, drop, replicate}
+use Rattle.std.specs.Int.{from_bool}
 use Rattle.std.proofs.lemmas.List.Edits.{sets}
 use Rattle.blockfile.specs.Bytes.{word16}
 use Rattle.blockfile.specs.Layout.{Entry, entries_from, lens_start, entry_end, entries_end}
@@ -50,7 +51,7 @@ pub record PartMeasured (img : List ℕ) (c : Change) (u : Cursor) (both n : ℕ
 pub record Measurable (img : List ℕ) (page : ℕ) (c : Change) (half : ℕ) : Type 0 where
   pub span : SpanOn img page
   pub fits : Fits c span.linked.span.entries
-  pub has : half + c.drops ≤ length span.linked.span.entries + c.adds
+  pub has : half + from_bool c.drops ≤ length span.linked.span.entries + from_bool c.adds
 
 -- the entries after the change, in two parts
 pub record Halved (c : Change) (e : Entry) (es : List Entry) (half : ℕ) (r : Ends) : Type 0 where

@@ -1,7 +1,8 @@
 // A change of a span's entries, and cursors that go through the list that it makes.
-ghost use Rattle.std.specs.Prelude.{◌≡◌};
+ghost use Rattle.std.specs.Prelude.{◌≡◌, ◌+◌, ◌-◌, ◌≤◌, ◌<◌};
+ghost use Rattle.std.specs.Int.{from_bool};
 ghost use Rattle.search.specs.Spans.{SpanBy, EntryThere};
-ghost use Rattle.stage.specs.Changes.{SpottedOn, PassedOver, Going, Reached, IsNew, NextOf};
+ghost use Rattle.stage.specs.Changes.{SpottedOn, put_at, PassedOver, Going, Reached, IsNew, NextOf};
 
 use entries::place::{Place, Sizes, lengths};
 use order::sort::Sort;
@@ -9,19 +10,27 @@ use pages::read::get16;
 use reader::place_after;
 use search::span::{Stop, seek};
 
-// Where a key belongs in a span: so many entries are below it, and the next one has the key (1) or not (0).
-#[derive(Clone, Copy)]
-pub struct Spot {
-    pub index: usize,
-    pub there: usize,
-}
-
-// At the index, so many entries give way and so many come: 0 or 1.
+// At the index, whether the entry there gives way, and whether one comes.
 #[derive(Clone, Copy)]
 pub struct Change {
     pub index: usize,
-    pub drops: usize,
-    pub adds: usize,
+    pub drops: bool,
+    pub adds: bool,
+}
+
+// The entry that comes.
+#[derive(Clone, Copy)]
+pub struct NewEntry<'a> {
+    pub key: &'a [u8],
+    pub value: &'a [u8],
+}
+
+// How many entries there are after the change, of `size` before it.
+pub fn size_after(size: usize, change: Change) -> usize
+    requires { (size < 65536) × (from_bool change.drops ≤ size + from_bool change.adds) }
+    ensures { result ≡ size + from_bool change.adds - from_bool change.drops }
+{
+    size + usize::from(change.adds) - usize::from(change.drops)
 }
 
 // An index into the new list, and the place of the old entry that comes next.
@@ -40,25 +49,34 @@ pub enum Next {
     Old(Sizes, Cursor),
 }
 
-// Where the key belongs in the span on the page.
-pub fn find_spot(image: &[u8], page: usize, sort: Sort, key: &[u8]) -> Spot
+// Where the key belongs in the span on the page: the index of the entry that has it, or that of the first one above it.
+pub fn find_spot(image: &[u8], page: usize, sort: Sort, key: &[u8]) -> Result<usize, usize>
     requires { SpanBy image.now page sort }
     ensures { SpottedOn image.now page sort key.now result }
 {
     let size = get16(image, page, 18);
     let stop = seek(image, page, sort, key);
     match stop {
-        Stop::Here(_, left) => Spot {
-            index: size - left,
-            there: 1,
+        Stop::Here(_, left) => Ok(size - left),
+        Stop::Above(_, left) => Err(size - left),
+        Stop::End => Err(size),
+    }
+}
+
+// The change that puts a key in at its spot: an entry that has the key gives way.
+pub fn put_change(spot: Result<usize, usize>) -> Change
+    ensures { result ≡ put_at spot }
+{
+    match spot {
+        Ok(index) => Change {
+            index,
+            drops: true,
+            adds: true,
         },
-        Stop::Above(_, left) => Spot {
-            index: size - left,
-            there: 0,
-        },
-        Stop::End => Spot {
-            index: size,
-            there: 0,
+        Err(index) => Change {
+            index,
+            drops: false,
+            adds: true,
         },
     }
 }
@@ -92,7 +110,7 @@ fn reach(image: &[u8], cursor: Cursor, change: Change) -> Place
     if cursor.index != change.index {
         return at;
     }
-    if change.drops == 0 {
+    if !change.drops {
         return at;
     }
     pass(image, at)
@@ -102,14 +120,7 @@ fn reach(image: &[u8], cursor: Cursor, change: Change) -> Place
 fn is_new(cursor: Cursor, change: Change) -> bool
     ensures { IsNew change cursor result }
 {
-    if change.adds != 1 {
-        return false;
-    }
-    if cursor.index == change.index {
-        true
-    } else {
-        false
-    }
+    change.adds && cursor.index == change.index
 }
 
 // The next entry of the new list.

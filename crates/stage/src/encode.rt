@@ -3,7 +3,7 @@ ghost use Rattle.std.specs.Prelude.{◌+◌, ◌≤◌, length};
 ghost use Rattle.blockfile.specs.Layout.{lens_start, entry_end};
 ghost use Rattle.stage.specs.Parts.{Lengthened, EntryPut, Copyable, OldPut, EntryStageable, EntryStaged, Stageable, Staged};
 
-use crate::change::{Change, Cursor, Next, next_entry};
+use crate::change::{Change, Cursor, NewEntry, Next, next_entry};
 use crate::measure::{Part, lens_at};
 use entries::place::Sizes;
 use pages::write::{copy_bytes, store16};
@@ -24,15 +24,15 @@ fn put_lengths(stream: &mut [u8], end: usize, key: usize, value: usize) -> usize
 }
 
 // The entry that comes. Answers where it ends.
-fn put_new(stream: &mut [u8], end: usize, key: &[u8], value: &[u8]) -> usize
-    requires { entry_end end (record { key = key.now; value = value.now }) ≤ length stream.old }
-    ensures { EntryPut stream.old end (record { key = key.entry.now; value = value.now }) stream.new result }
+fn put_new(stream: &mut [u8], end: usize, new: NewEntry<'_>) -> usize
+    requires { entry_end end (record { key = new.key.now; value = new.value.now }) ≤ length stream.old }
+    ensures { EntryPut stream.old end (record { key = new.entry.key.now; value = new.entry.value.now }) stream.new result }
 {
-    let first = put_lengths(stream, end, key.len(), value.len());
-    copy_bytes(stream, first, key);
-    let second = first + key.len();
-    copy_bytes(stream, second, value);
-    second + value.len()
+    let first = put_lengths(stream, end, new.key.len(), new.value.len());
+    copy_bytes(stream, first, new.key);
+    let second = first + new.key.len();
+    copy_bytes(stream, second, new.value);
+    second + new.value.len()
 }
 
 // An entry of the image; its key and value are one run of bytes. Answers where it ends.
@@ -52,18 +52,17 @@ fn stage_entry(
     image: &[u8],
     cursor: Cursor,
     change: Change,
-    key: &[u8],
-    value: &[u8],
+    new: NewEntry<'_>,
     end: usize,
     stream: &mut [u8],
 ) -> Part
-    requires { EntryStageable image.now change cursor key.now value.now end stream.old }
-    ensures { EntryStaged image.now change cursor key.now value.now end stream.old stream.new result }
+    requires { EntryStageable image.now change cursor new.key.now new.value.now end stream.old }
+    ensures { EntryStaged image.now change cursor new.entry.key.now new.entry.value.now end stream.old stream.new result }
 {
     let next = next_entry(image, cursor, change);
     match next {
         Next::New(after) => {
-            let end = put_new(stream, end, key, value);
+            let end = put_new(stream, end, new);
             Part { end, after }
         }
         Next::Old(g, after) => {
@@ -78,22 +77,19 @@ pub fn stage(
     image: &[u8],
     from: Cursor,
     change: Change,
-    key: &[u8],
-    value: &[u8],
+    new: NewEntry<'_>,
     count: usize,
     stream: &mut [u8],
 ) -> Cursor
-    requires { Stageable image.now change from key.now value.now count stream.old }
-    ensures { Staged image.now change from key.now value.now count stream.old stream.new result }
+    requires { Stageable image.now change from new.key.now new.value.now count stream.old }
+    ensures { Staged image.now change from new.entry.key.now new.entry.value.now count stream.old stream.new result }
 {
     let mut cursor = from;
     let mut end = 12;
-    let mut i = 0;
-    while i < count {
-        let part = stage_entry(image, cursor, change, key, value, end, stream);
+    for _i in 0..count {
+        let part = stage_entry(image, cursor, change, new, end, stream);
         end = part.end;
         cursor = part.after;
-        i += 1;
     }
     cursor
 }

@@ -4,7 +4,7 @@ ghost use Rattle.blockfile.specs.Layout.{lens_start};
 ghost use Rattle.stage.specs.Changes.{Going};
 ghost use Rattle.stage.specs.Parts.{far, EntryMeasured, PartMeasured, Measurable, MeasuredOn};
 
-use crate::change::{Change, Cursor, Next, next_entry, start};
+use crate::change::{Change, Cursor, Next, next_entry, size_after, start};
 use pages::read::get16;
 
 // Where a part of the new list ends in a stream of its own, and the cursor behind it.
@@ -60,12 +60,10 @@ fn measure_part(image: &[u8], from: Cursor, change: Change, both: usize, count: 
 {
     let mut cursor = from;
     let mut end = 12;
-    let mut i = 0;
-    while i < count {
+    for _i in 0..count {
         let part = measure_entry(image, cursor, change, both, end);
         end = part.end;
         cursor = part.after;
-        i += 1;
     }
     Part { end, after: cursor }
 }
@@ -78,7 +76,7 @@ pub fn measure(image: &[u8], page: usize, change: Change, both: usize, half: usi
     let size = get16(image, page, 18);
     let stay = measure_part(image, start(page), change, both, half);
     let middle = stay.after;
-    let rest = size + change.adds - change.drops - half;
+    let rest = size_after(size, change) - half;
     let moved = measure_part(image, middle, change, both, rest);
     Ends {
         stay: stay.end,

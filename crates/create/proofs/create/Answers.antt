@@ -12,7 +12,7 @@ pub find_spot-spot-requires : goal.find_spot-spot-requires
 find_spot-spot-requires c = spot-ready c.requires _ c.find_from-page.ensures
 
 pub enter-requires : goal.enter-requires
-enter-requires c = enter-ready c.requires _ c.find_from-page.ensures c.descend-path.ensures _ c.find_spot-spot.ensures
+enter-requires c = enter-ready c.requires _ c.find_from-page.ensures c.descend-path.ensures _ c.find_spot-spot.ensures _ c.put_change-change.ensures
 
 pub returns : goal.returns
-returns c = created c.descend-path.ensures _ c.find_from-page.ensures _ c.find_spot-spot.ensures _ _ c.enter.ensures
+returns c = created c.descend-path.ensures _ c.find_from-page.ensures _ c.find_spot-spot.ensures _ c.put_change-change.ensures _ _ c.enter.ensures

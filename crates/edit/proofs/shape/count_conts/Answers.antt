@@ -6,7 +6,7 @@ pub measure-ends-requires : goal.measure-ends-requires
 measure-ends-requires c = (none-fits c.requires, omega arith)
 
 pub overflow_sub-result : goal.overflow_sub-result
-overflow_sub-result c = one-reached c.requires _ c.measure-ends.ensures
+overflow_sub-result c = one-reached c.requires _ c.measure-ends.ensures c.div_ceil.ensures
 
 pub returns : goal.returns
-returns c = conts-counted c.requires _ c.measure-ends.ensures
+returns c = conts-counted c.requires _ c.measure-ends.ensures c.div_ceil.ensures

@@ -8,11 +8,10 @@ get32-requires c = record { small = omega arith; low = omega arith; high = omega
 
 pub loop-i-preserved : goal.loop-i-preserved
 loop-i-preserved c =
-    let v = c.loop-i.invariant in
-    (omega arith, fill_more v.1 (omega arith) _ c.get32.ensures.is)
+    fill_more c.loop-i.invariant (omega arith) _ c.get32.ensures.is
 
 pub returns : goal.returns
-returns c = let e : c.loop-i.i ≡ c.args.height = omega arith in rw (← e) c.loop-i.invariant.1
+returns c = let e : c.loop-i.i ≡ c.args.height = omega arith in rw (← e) c.loop-i.invariant
 
 pub loop-i-init : goal.loop-i-init
-loop-i-init c = (omega arith, fill_none _ _)
+loop-i-init c = fill_none _ _

@@ -1,11 +1,8 @@
 -- `links::around::get_entries` meets its contract: the levels that were passed are entries of the tower.
-use Prim.Native.Nat.{◌+◌, ◌*◌, ◌-◌, ◌≤◌}
+use Prim.Native.Nat.{◌+◌, ◌*◌}
 use Rattle.blockfile.specs.Bytes.{pg, be32}
 use Rattle.search.specs.Paths.{Filled}
 use Rattle.links.proofs.around.get_entries.Given as goal
 
 abbrev pub invariant-loop-i : goal.invariant-loop-i
-invariant-loop-i l = (l.i ≤ l.height) × Filled l.initial.nexts l.i (λ k. be32 (pg l.image l.page) (16 + 4 * k)) l.nexts
-
-abbrev pub decreases-loop-i : goal.decreases-loop-i
-decreases-loop-i l = l.height - l.i
+invariant-loop-i l = Filled l.initial.nexts l.i (λ k. be32 (pg l.image l.page) (16 + 4 * k)) l.nexts

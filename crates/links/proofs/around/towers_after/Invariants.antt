@@ -1,5 +1,5 @@
 -- `links::around::towers_after` meets its contract: the levels that were passed are entries of the last towers.
-use Prim.Native.Nat.{◌-◌, ◌≤◌}
+use Prim.Native.Nat.{◌≤◌}
 use mathlib.Core.Path.{◌≡◌}
 use lib.ListN.{length}
 use Rattle.search.specs.Paths.{Filled}
@@ -8,6 +8,3 @@ use Rattle.links.proofs.around.towers_after.Given as goal
 
 abbrev pub invariant-loop-i : goal.invariant-loop-i
 invariant-loop-i l = (l.i ≤ l.height) × (l.height ≤ 252) × (length l.initial.after ≡ 252) × Filled l.initial.after l.i (entry_of l.image l.before) l.after
-
-abbrev pub decreases-loop-i : goal.decreases-loop-i
-decreases-loop-i l = l.height - l.i

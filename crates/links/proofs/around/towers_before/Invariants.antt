@@ -1,12 +1,8 @@
 -- `links::around::towers_before` meets its contract: the levels that were passed are the path's, or the head.
-use Prim.Native.Nat.{◌-◌, ◌≤◌}
 use lib.ListN.{get_or}
 use Rattle.search.specs.Paths.{Filled}
 use Rattle.links.specs.Levels.{page_or_head}
 use Rattle.links.proofs.around.towers_before.Given as goal
 
 abbrev pub invariant-loop-i : goal.invariant-loop-i
-invariant-loop-i l = (l.i ≤ 252) × Filled l.initial.before l.i (λ k. page_or_head l.head (get_or l.path k 0)) l.before
-
-abbrev pub decreases-loop-i : goal.decreases-loop-i
-decreases-loop-i l = 252 - l.i
+invariant-loop-i l = Filled l.initial.before l.i (λ k. page_or_head l.head (get_or l.path k 0)) l.before

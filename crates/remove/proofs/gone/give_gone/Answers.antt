@@ -12,16 +12,16 @@ give_page-requires c = page-giveable c.requires.span c.give_chain-conts.ensures
 pub give_page-requires-2 : goal.give_page-requires-2
 give_page-requires-2 c =
     let h = c.requires in
-    tower-giveable h.span c.give_chain-conts.ensures c.give_page.ensures (h.tall c.if-tower-eq0.false)
+    tower-giveable h.span c.give_chain-conts.ensures c.give_page.ensures (h.tall _ c.in-Some.is)
 
 pub overflow_add-result : goal.overflow_add-result
 overflow_add-result c = omega (arith, conts-few c.requires.span c.give_chain-conts.ensures)
 
-pub returns-then-tower-eq0 : goal.returns-then-tower-eq0
-returns-then-tower-eq0 c = gave-flat c.give_chain-conts.ensures c.give_page.ensures c.if-tower-eq0.true
+pub returns-in_default : goal.returns-in_default
+returns-in_default c = gave-flat c.give_chain-conts.ensures c.give_page.ensures c.in_default.is
 
 pub overflow_add-result-2 : goal.overflow_add-result-2
 overflow_add-result-2 c = omega (arith, conts-few c.requires.span c.give_chain-conts.ensures)
 
 pub returns : goal.returns
-returns c = gave-tall c.give_chain-conts.ensures c.give_page.ensures c.if-tower-eq0.false c.give_page-2.ensures
+returns c = gave-tall c.give_chain-conts.ensures c.give_page.ensures _ c.in-Some.is c.give_page-2.ensures

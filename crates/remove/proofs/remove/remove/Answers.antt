@@ -12,39 +12,39 @@ descend-path-requires c = reading c.requires.is
 pub find_from-page-requires : goal.find_from-page-requires
 find_from-page-requires c = (reading c.requires.is, lowest-of c.descend-path.ensures)
 
-pub find_spot-spot-requires : goal.find_spot-spot-requires
-find_spot-spot-requires c = target-span (reading c.requires.is) _ _ c.find_from-page.ensures
+pub find_spot-requires : goal.find_spot-requires
+find_spot-requires c = target-span (reading c.requires.is) _ _ c.find_from-page.ensures
 
-pub returns-then-spot-eq0 : goal.returns-then-spot-eq0
-returns-then-spot-eq0 c = not_there _ c.find_from-page.ensures _ c.find_spot-spot.ensures c.if-spot-eq0.true
+pub returns-in_default : goal.returns-in_default
+returns-in_default c = not_there _ c.find_from-page.ensures _ c.find_spot.ensures _ c.in_default.is
 
 pub read_links-links-requires : goal.read_links-links-requires
 read_links-links-requires c = linked_on c.requires.is _ _ c.find_from-page.ensures
 
 pub unlink-requires : goal.unlink-requires
 unlink-requires c =
-    unlink-ready c.requires _ c.find_from-page.ensures _ c.find_spot-spot.ensures c.if-spot-eq0.false _ c.read_links-links.ensures (c.goes.ensures.yes c.if-goes.true)
+    unlink-ready c.requires _ c.find_from-page.ensures _ c.find_spot.ensures _ c.in-Ok.is _ c.read_links-links.ensures (c.goes.ensures.yes c.if-goes.true)
     c.descend-path.ensures
 
 pub overflow_add-left : goal.overflow_add-left
 overflow_add-left c =
     omega (
       arith,
-      few-gone c.requires _ c.find_from-page.ensures _ c.find_spot-spot.ensures c.if-spot-eq0.false _ c.read_links-links.ensures (c.goes.ensures.yes c.if-goes.true)
+      few-gone c.requires _ c.find_from-page.ensures _ c.find_spot.ensures _ c.in-Ok.is _ c.read_links-links.ensures (c.goes.ensures.yes c.if-goes.true)
           c.descend-path.ensures c.unlink.ensures,
     )
 
 pub returns-then-goes : goal.returns-then-goes
 returns-then-goes c =
-    went _ c.find_from-page.ensures _ c.find_spot-spot.ensures c.if-spot-eq0.false _ c.read_links-links.ensures (c.goes.ensures.yes c.if-goes.true) c.descend-path.ensures
+    went _ c.find_from-page.ensures _ c.find_spot.ensures _ c.in-Ok.is _ c.read_links-links.ensures (c.goes.ensures.yes c.if-goes.true) c.descend-path.ensures
     c.unlink.ensures
 
 pub leave-requires : goal.leave-requires
-leave-requires c = leave-ready c.requires _ c.find_from-page.ensures _ c.find_spot-spot.ensures c.if-spot-eq0.false
+leave-requires c = leave-ready c.requires _ c.find_from-page.ensures _ c.find_spot.ensures _ c.in-Ok.is
 
 pub overflow_add-left-2 : goal.overflow_add-left-2
-overflow_add-left-2 c = omega (arith, few-left c.requires _ c.find_from-page.ensures _ c.find_spot-spot.ensures c.if-spot-eq0.false c.leave.ensures)
+overflow_add-left-2 c = omega (arith, few-left c.requires _ c.find_from-page.ensures _ c.find_spot.ensures _ c.in-Ok.is c.leave.ensures)
 
 pub returns : goal.returns
 returns c =
-    stayed _ c.find_from-page.ensures _ c.find_spot-spot.ensures c.if-spot-eq0.false _ c.read_links-links.ensures (c.goes.ensures.other c.if-goes.false) c.leave.ensures
+    stayed _ c.find_from-page.ensures _ c.find_spot.ensures _ c.in-Ok.is _ c.read_links-links.ensures (c.goes.ensures.other c.if-goes.false) c.leave.ensures

@@ -5,22 +5,22 @@ use lib.ListN.{length-replicate}
 use Rattle.remove.proofs.Owning.{own-inside, own-low, tower-none, tower-some}
 use Rattle.remove.proofs.tower.find_tower.Goals as goal
 
-pub returns-then-tower-eq0 : goal.returns-then-tower-eq0
-returns-then-tower-eq0 c = record { is = λ root t k a. tower-none t k a c.tower_of-tower.ensures c.if-tower-eq0.true }
+pub returns-in_default : goal.returns-in_default
+returns-in_default c = record { is = λ root t k a. tower-none t k a c.tower_of.ensures c.in_default.is }
 
 pub get16-height-requires : goal.get16-height-requires
 get16-height-requires c =
     let p = c.requires in
-    own-inside p.reading p.place p.is c.tower_of-tower.ensures c.if-tower-eq0.false _ _ (omega arith)
+    own-inside p.reading p.place p.is c.tower_of.ensures _ c.in-Some.is _ _ (omega arith)
 
 pub get_entries-requires : goal.get_entries-requires
 get_entries-requires c =
     let p = c.requires in (
-      own-inside p.reading p.place p.is c.tower_of-tower.ensures c.if-tower-eq0.false _ _ (omega arith),
-      own-low p.reading p.place p.is c.tower_of-tower.ensures c.if-tower-eq0.false c.get16-height.ensures.is,
+      own-inside p.reading p.place p.is c.tower_of.ensures _ c.in-Some.is _ _ (omega arith),
+      own-low p.reading p.place p.is c.tower_of.ensures _ c.in-Some.is c.get16-height.ensures.is,
       length-replicate {A = ℕ} 252 0,
     )
 
 pub returns : goal.returns
 returns c =
-    record { is = λ root t k a. tower-some t k a c.tower_of-tower.ensures c.if-tower-eq0.false c.get16-height.ensures.is (length-replicate {A = ℕ} 252 0) c.get_entries.ensures }
+    record { is = λ root t k a. tower-some t k a c.tower_of.ensures _ c.in-Some.is c.get16-height.ensures.is (length-replicate {A = ℕ} 252 0) c.get_entries.ensures }

@@ -1,10 +1,6 @@
 -- `stage::encode::stage` meets its contract: entry by entry.
-use Prim.Native.Nat.{◌-◌}
 use Rattle.stage.proofs.Stagings.{Staging}
 use Rattle.stage.proofs.encode.stage.Given as goal
 
 abbrev pub invariant-loop-i : goal.invariant-loop-i
-invariant-loop-i l = Staging l.image l.change l.initial.cursor l.key l.value l.count l.initial.stream l.stream l.cursor l.end l.i
-
-abbrev pub decreases-loop-i : goal.decreases-loop-i
-decreases-loop-i l = l.count - l.i
+invariant-loop-i l = Staging l.image l.change l.initial.cursor l.new.key.now l.new.value.now l.count l.initial.stream l.stream l.cursor l.end l._i
