@@ -1,5 +1,4 @@
 // One span: its pages, its fields, its entries.
-ghost use Rattle.std.specs.Prelude.{◌≡◌, length};
 ghost use Rattle.blockfile.specs.Bytes.{pg, be32};
 ghost use Rattle.heads.specs.Claims.{Lent};
 ghost use Rattle.spans.specs.Charts.{Charted};
@@ -7,7 +6,7 @@ ghost use Rattle.spans.specs.Entries.{Met};
 ghost use Rattle.spans.specs.Parts.{ReadySpan, Reading, VerifiedAll};
 
 use crate::claims::claim_span;
-use crate::entry::{Last, verify_entries};
+use crate::entry::{Last, Position, verify_entries};
 use entries::place::Place;
 use heads::claim::{head16, head32};
 use order::sort::Sort;
@@ -32,7 +31,7 @@ pub struct Spanned {
 fn read_span(
     image: &[u8],
     scratch: &[u8],
-    chart: &[u16],
+    chart: &[u16; 256],
     page: usize,
     more: usize,
     previous: usize,
@@ -54,18 +53,12 @@ fn read_span(
     if most < size {
         return None;
     }
-    let start = Place { page, offset: 20 };
-    let end = verify_entries(
-        image,
-        scratch,
-        chart,
-        more,
-        start,
-        1004 + 1016 * more,
-        size,
-        sort,
+    let start = Position {
+        at: Place { page, offset: 20 },
+        left: 1004 + 1016 * more,
         last,
-    )?;
+    };
+    let end = verify_entries(image, scratch, chart, more, start, size, sort)?;
     if 1016 <= end.left {
         return None;
     }
@@ -81,13 +74,13 @@ fn read_span(
 pub fn verify_span(
     image: &[u8],
     scratch: &mut [u8],
-    chart: &mut [u16],
+    chart: &mut [u16; 256],
     page: usize,
     previous: usize,
     rules: Rules,
     last: Last,
 ) -> Option<Spanned>
-    requires { Lent image.now scratch.old × (length chart.old ≡ 256) × Met rules.sort image.now last }
+    requires { Lent image.now scratch.old × Met rules.sort image.now last }
     ensures { VerifiedAll rules.sort image.now scratch.old page previous rules.most last result scratch.new }
 {
     let more = claim_span(scratch, chart, page)?;
