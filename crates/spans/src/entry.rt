@@ -19,6 +19,15 @@ use order::sort::{Lengths, Sort, lengths_of, turned};
 use pages::read::get16;
 use reader::place_after;
 
+// The pages of a span as its entries are read: the image, its heads, the chart of the continuation pages, and how many these are.
+#[derive(Clone, Copy)]
+pub struct Pages<'a> {
+    pub image: &'a [u8],
+    pub scratch: &'a [u8],
+    pub chart: &'a [u16; 256],
+    pub more: usize,
+}
+
 // The last key met: its place, its length, 0 where there is none, and a number that its rank is not above.
 #[derive(Clone, Copy)]
 pub struct Last {
@@ -105,44 +114,30 @@ fn nth_page(scratch: &[u8], chart: &[u16; 256], index: usize) -> usize
     page
 }
 
-// The place n bytes on. `left` bytes are left from here on up to the end of the span's pages, of which `more` are continuation
-// pages. Where many are passed, the page is found by its index among them.
-fn leap(
-    image: &[u8],
-    scratch: &[u8],
-    chart: &[u16; 256],
-    more: usize,
-    at: Place,
-    left: usize,
-    n: usize,
-) -> Place
-    requires { Lent image.now scratch.now × Spread image.now chart.now more at left × (n ≤ left) }
-    ensures { Moved image.now at n result }
+// The place n bytes on. `left` bytes are left from here on up to the end of the span's pages. Where many are passed, the page is
+// found by its index among the continuation pages.
+fn leap<'a>(pages: Pages<'a>, at: Place, left: usize, n: usize) -> Place
+    requires { Lent pages.image.now pages.scratch.now × Spread pages.image.now pages.chart.now pages.more at left × (n ≤ left) }
+    ensures { Moved pages.entry.image.now at n result }
 {
     if n <= 16256 {
-        return place_after(image, at, n);
+        return place_after(pages.image, at, n);
     }
-    let passed = 1016 * more - (left - n);
+    let passed = 1016 * pages.more - (left - n);
     let index = (passed - 1) / 1016;
-    let page = nth_page(scratch, chart, index);
+    let page = nth_page(pages.scratch, pages.chart, index);
     Place {
         page,
         offset: 8 + (passed - 1016 * index),
     }
 }
 
-// Reads the entry that follows; bytes are left up to the end of the span's pages, of which `more` are continuation pages.
-fn verify_entry(
-    image: &[u8],
-    scratch: &[u8],
-    chart: &[u16; 256],
-    more: usize,
-    from: Position,
-    sort: Sort,
-) -> Option<Position>
-    requires { Lent image.now scratch.now × Ready sort image.now from.at from.left from.last × Spread image.now chart.now more from.at from.left }
-    ensures { Entering sort image.now from.at from.last 1 result }
+// Reads the entry that follows; what is left goes up to the end of the span's pages.
+fn verify_entry<'a>(pages: Pages<'a>, from: Position, sort: Sort) -> Option<Position>
+    requires { Lent pages.image.now pages.scratch.now × Ready sort pages.image.now from.at from.left from.last × Spread pages.image.now pages.chart.now pages.more from.at from.left }
+    ensures { Entering sort pages.entry.image.now from.at from.last 1 result }
 {
+    let image = pages.image;
     let at = from.at;
     let left = from.left;
     let skipped = gap(at.offset, 4);
@@ -160,7 +155,7 @@ fn verify_entry(
     if !is_above(image, sort, from.last, start, key) {
         return None;
     }
-    let after = leap(image, scratch, chart, more, start, left - skipped - 4, both);
+    let after = leap(pages, start, left - skipped - 4, both);
     let rank = rank_most(image, start, key, sort);
     Some(Position {
         at: after,
@@ -277,28 +272,25 @@ fn run_after(before: usize, rank: usize, left: usize) -> usize
 }
 
 // Reads `size` entries.
-pub fn verify_entries(
-    image: &[u8],
-    scratch: &[u8],
-    chart: &[u16; 256],
-    more: usize,
+pub fn verify_entries<'a>(
+    pages: Pages<'a>,
     from: Position,
     size: usize,
     sort: Sort,
 ) -> Option<Position>
-    requires { Lent image.now scratch.now × Ready sort image.now from.at from.left from.last × Spread image.now chart.now more from.at from.left }
-    ensures { Entering sort image.now from.at from.last size result }
+    requires { Lent pages.image.now pages.scratch.now × Ready sort pages.image.now from.at from.left from.last × Spread pages.image.now pages.chart.now pages.more from.at from.left }
+    ensures { Entering sort pages.entry.image.now from.at from.last size result }
 {
     let mut here = from;
     let mut run = size;
     let mut i = 0;
     while i < size {
-        let skimmed = skim(image, here, run, sort);
+        let skimmed = skim(pages.image, here, run, sort);
         let to = skimmed.to;
         if size - i <= skimmed.count {
             return Some(to);
         }
-        here = verify_entry(image, scratch, chart, more, to, sort)?;
+        here = verify_entry(pages, to, sort)?;
         i += skimmed.count + 1;
         run = run_after(to.last.rank, here.last.rank, size - i);
     }
