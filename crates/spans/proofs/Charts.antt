@@ -143,26 +143,29 @@ module _ {img chart : List ℕ} {more : ℕ} {at : Place} {left : ℕ} (s : Spre
           (subst (Rest img _) bytes (rest_in img (record { page = along img s.first index; offset = 8 }) (drop (1016 * index) s.tail) start (passed - 1016 * index) (omega (arith, w.on)))) in
           record { to = λ t u. subst (λ (l : List ℕ). Rest img (record { page = q; offset = 8 + (passed - 1016 * index) }) (drop n l)) (rest-one img at s.bytes s.rest t u) to }
 
--- ---- A continuation page by its index: the loop along the heads, with k links to go
+-- ---- A continuation page by its index: the loop along the heads, from the page of the chart on
 
 module _ {scr chart img : List ℕ} {p index : ℕ} (w : Paged scr chart img p index) where
   -- the chart has the page that the loop starts from
   pub paged-few : index < 4096
   paged-few = omega (arith, w.there, w.few)
 
-  pub paged-start : get_or chart (index / 16) 0 ≡ along img p (index - index % 16)
+  -- the page that k links lead to from there
+  abbrev pub on : ℕ → ℕ
+  on k = along img p (16 * (index / 16) + k)
+
+  pub paged-start : get_or chart (index / 16) 0 ≡ on 0
   paged-start =
-      let there = w.there in
-      let e : 16 * (index / 16) ≡ index - index % 16 = omega arith in
-      w.charted.pages (index / 16) (omega arith) ∙ ap (along img p) e
+      let e : 16 * (index / 16) ≡ 16 * (index / 16) + 0 = omega arith in
+      w.charted.pages (index / 16) (omega (arith, w.there)) ∙ ap (along img p) e
 
-  pub paged-here : (k : ℕ) → InHead scr (along img p (index - k)) 4 4
-  paged-here k = let i = w.inside (index - k) (omega arith) in in_head w.lent i.low i.high (omega arith)
+  pub paged-here : {k : ℕ} → k < index % 16 → InHead scr (on k) 4 4
+  paged-here {k} l = let i = w.inside (16 * (index / 16) + k) (omega arith) in in_head w.lent i.low i.high (omega arith)
 
-  pub paged-next : {k page next : ℕ} → 1 ≤ k → k ≤ index → page ≡ along img p (index - k) → next ≡ head32 scr page 4 → next ≡ along img p (index - (k - 1))
-  paged-next {k} low high e is =
-      let sum : suc (index - k) ≡ index - (k - 1) = omega arith in
-      is ∙ ap (λ (n : ℕ). head32 scr n 4) e ∙ head32-is w.lent (paged-here k) (omega arith) ∙ ap (along img p) sum
+  pub paged-next : {k page next : ℕ} → k < index % 16 → page ≡ on k → next ≡ head32 scr page 4 → next ≡ on (k + 1)
+  paged-next {k} l e is =
+      let sum : suc (16 * (index / 16) + k) ≡ 16 * (index / 16) + (k + 1) = omega arith in
+      is ∙ ap (λ (n : ℕ). head32 scr n 4) e ∙ head32-is w.lent (paged-here l) (omega arith) ∙ ap (along img p) sum
 
-  pub paged-end : {k page : ℕ} → k ≡ 0 → page ≡ along img p (index - k) → page ≡ along img p index
-  paged-end {k} z e = let sum : index - k ≡ index = omega arith in e ∙ ap (along img p) sum
+  pub paged-end : {k page : ℕ} → k ≡ index % 16 → page ≡ on k → page ≡ along img p index
+  paged-end {k} z e = let sum : 16 * (index / 16) + k ≡ index = omega arith in e ∙ ap (along img p) sum

@@ -9,7 +9,7 @@ use mathlib.Core.List.{List, [], ◌∷◌}
 use lib.ListN.{length, take, drop, get_or, length-drop}
 use lib.Seq.{drop-drop}
 use lib.Dec.{T, ltb, eqb→eq}
-use borrow.Author.Tests.{ltb-true, ltb-false, eq-eqb, ne_eqb, lt-ltb, le-ltb}
+use borrow.Author.Tests.{ltb-true, ltb-false, eq-eqb, ne_eqb}
 use Rattle.std.proofs.Common.{Option, Some, None}
 use Rattle.blockfile.specs.Bytes.{pg, be16, be32}
 use Rattle.blockfile.specs.Order.{bytes_below, numbers_below}
@@ -120,11 +120,8 @@ module _ {img : List ℕ} {l : Last} {at : Place} {n : ℕ} where
         numbers-turned low k (key-length u.there ∙ last-four m some) (key-length v ∙ four) (key-bytes-are bytes low u.there) (key-bytes-are bytes k v)
         ∙ sym (ap₂ (λ (p q : ℕ). ltb (turned p) (turned q)) (number_is a (last-four m some) low u.there) (number_is b four k v))
 
-    pub number-above : turned x < turned y → IsAbove Numbers img l at n true
-    number-above h = record { is = λ low k u v. rw (eq-eqb n 4 four, numbers-order low k u v, lt-ltb (turned x) (turned y) h) }
-
-    pub not-number-above : turned y ≤ turned x → IsAbove Numbers img l at n false
-    not-number-above h = record { is = λ low k u v. rw (eq-eqb n 4 four, numbers-order low k u v, le-ltb (turned x) (turned y) h) }
+    pub number-above : {p q : ℕ} → p ≡ turned x → q ≡ turned y → IsAbove Numbers img l at n (ltb p q)
+    number-above e f = record { is = λ low k u v. rw (eq-eqb n 4 four, numbers-order low k u v, e, f) }
 
 -- by the sort
 module _ {img : List ℕ} {l : Last} {at : Place} {n : ℕ} {r : Bool} where
@@ -367,25 +364,24 @@ skimming-start {sort} {img} {at} {left} {l} r =
       some = λ h. absurd (omega arith);
     }
 
-module _ {sort : Sort} {img : List ℕ} {at : Place} {left : ℕ} {last : Last} {count before end rank : ℕ}
-    (w : Skimming sort img at left last (record { count = count; before = before; end = end; rank = rank })) where
-  skimming-walk : Walking sort img at last (on_page at end) (left - (end - at.offset)) w.key count
+module _ {sort : Sort} {img : List ℕ} {at : Place} {left : ℕ} {last : Last} {p : Passed} (w : Skimming sort img at left last p) where
+  skimming-walk : Walking sort img at last (on_page at p.end) (left - (p.end - at.offset)) w.key p.count
   skimming-walk = record { all = left; start = w.start; read = w.read.is w.start.bytes w.start.low w.start.rest w.start.key }
 
-  pub skimming-enough : Enough img (on_page at end) 0
+  pub skimming-enough : Enough img (on_page at p.end) 0
   skimming-enough = let r = walking-ready skimming-walk in record { bytes = r.bytes; rest = r.rest; long = omega arith }
 
   -- one more
-  pub skimming-more : {a : Option Tried} → Tries sort img (on_page at end) rank a → {x : Tried} → a ≡ Some x
-      → Skimming sort img at left last (record { count = count + 1; before = end; end = x.end; rank = x.rank })
+  pub skimming-more : {a : Option Tried} → Tries sort img (on_page at p.end) p.rank a → {x : Tried} → a ≡ Some x
+      → Skimming sort img at left last (record { count = p.count + 1; before = p.end; end = x.end; rank = x.rank })
   skimming-more t {x} is =
-      let o : ReadOnPage sort img (on_page at end) rank x.end x.rank = (subst (Tries sort img (on_page at end) rank) is t).is in
-      let less : left - (end - at.offset) - (x.end - end) ≡ left - (x.end - at.offset) = omega (arith, o.some, w.low) in
-      let read = walking-more skimming-walk (o.read (left - (end - at.offset)) w.key (walking-ready skimming-walk) w.ranked) refl refl in
+      let o : ReadOnPage sort img (on_page at p.end) p.rank x.end x.rank = (subst (Tries sort img (on_page at p.end) p.rank) is t).is in
+      let less : left - (p.end - at.offset) - (x.end - p.end) ≡ left - (x.end - at.offset) = omega (arith, o.some, w.low) in
+      let read = walking-more skimming-walk (o.read (left - (p.end - at.offset)) w.key (walking-ready skimming-walk) w.ranked) refl refl in
       record {
         start = w.start;
-        key = last_at img (on_page at end) x.rank;
-        read = subst (λ (n : ℕ). Entering sort img at last (count + 1) (Some (position (on_page at x.end) n (last_at img (on_page at end) x.rank)))) less (walking-end read refl);
+        key = last_at img (on_page at p.end) x.rank;
+        read = subst (λ (n : ℕ). Entering sort img at last (p.count + 1) (Some (position (on_page at x.end) n (last_at img (on_page at p.end) x.rank)))) less (walking-end read refl);
         ranked = refl;
         low = omega (arith, o.some, w.low);
         high = o.inside;

@@ -1,5 +1,5 @@
 // The pages of a span, claimed by their heads before their entries are read.
-ghost use Rattle.std.specs.Prelude.{List, ◌≡◌, ℕ, ◌≤◌, ◌<◌, length};
+ghost use Rattle.std.specs.Prelude.{List, ℕ, ◌≤◌, ◌<◌};
 ghost use Rattle.heads.specs.Claims.{Lent, Kept};
 ghost use Rattle.spans.specs.Charts.{Noted};
 ghost use Rattle.spans.specs.Parts.{ContsClaimed, PagesClaimed};
@@ -8,8 +8,8 @@ use heads::claim::{claim, head32};
 use pages::mark;
 
 // Notes the continuation page of this index in the chart, which has every sixteenth.
-fn note(chart: &mut [u16], index: usize, page: usize)
-    requires { (length chart.old ≡ 256) × (index < 4096) × (page ≤ 4096) }
+fn note(chart: &mut [u16; 256], index: usize, page: usize)
+    requires { (index < 4096) × (page ≤ 4096) }
     ensures { Noted chart.old index page chart.new }
 {
     if index % 16 == 0 {
@@ -19,8 +19,8 @@ fn note(chart: &mut [u16], index: usize, page: usize)
 
 // Claims the continuation pages from `start` on, along their links up to 0, and notes them in the chart; answers their number. A page
 // is claimed once, so a ring is refused.
-fn claim_conts(scratch: &mut [u8], chart: &mut [u16], start: usize) -> Option<usize>
-    requires { Kept scratch.old × (length chart.old ≡ 256) }
+fn claim_conts(scratch: &mut [u8], chart: &mut [u16; 256], start: usize) -> Option<usize>
+    requires { Kept scratch.old }
     ensures { (img : List ℕ) → Lent img scratch.old → ContsClaimed img scratch.old start result scratch.new chart.new }
 {
     let mut page = start;
@@ -37,8 +37,8 @@ fn claim_conts(scratch: &mut [u8], chart: &mut [u16], start: usize) -> Option<us
 }
 
 // Claims the page of a span and its continuation pages, and notes these in the chart; answers their number.
-pub fn claim_span(scratch: &mut [u8], chart: &mut [u16], page: usize) -> Option<usize>
-    requires { Kept scratch.old × (length chart.old ≡ 256) }
+pub fn claim_span(scratch: &mut [u8], chart: &mut [u16; 256], page: usize) -> Option<usize>
+    requires { Kept scratch.old }
     ensures { (img : List ℕ) → Lent img scratch.old → PagesClaimed img scratch.old page result scratch.new chart.new }
 {
     if claim(scratch, page, mark::SPAN) {

@@ -19,6 +19,15 @@ use pages::read::get16;
 use reader::place_after;
 use std::cmp::Ordering;
 
+// The pages of a span as its entries are read: the image, its heads, the chart of the continuation pages, and how many these are.
+#[derive(Clone, Copy)]
+pub struct Pages<'a> {
+    pub image: &'a [u8],
+    pub scratch: &'a [u8],
+    pub chart: &'a [u16; 256],
+    pub more: usize,
+}
+
 // The last key met: its place, its length, 0 where there is none, and a number that its rank is not above.
 #[derive(Clone, Copy)]
 pub struct Last {
@@ -79,16 +88,7 @@ fn above_number(image: &[u8], last: Last, at: Place, key: usize) -> bool
     requires { Met Numbers image.now last × Key image.now at key }
     ensures { IsAbove Numbers image.now last at key result }
 {
-    if key != 4 {
-        return false;
-    }
-    if last.length == 0 {
-        return true;
-    }
-    let before = last.at;
-    let low = turned(number(image, before));
-    let high = turned(number(image, at));
-    if low < high { true } else { false }
+    key == 4 && (last.length == 0 || turned(number(image, last.at)) < turned(number(image, at)))
 }
 
 // Whether a key is as long as the keys of its table are, and above the last key met.
@@ -103,61 +103,44 @@ fn is_above(image: &[u8], sort: Sort, last: Last, at: Place, key: usize) -> bool
 }
 
 // The continuation page of this index: one of the chart, and from there at most fifteen links of the heads.
-fn nth_page(scratch: &[u8], chart: &[u16], index: usize) -> usize
+fn nth_page(scratch: &[u8], chart: &[u16; 256], index: usize) -> usize
     requires { (img : List ℕ) × ((p : ℕ) × Paged scratch.now chart.now img p index) }
     ensures { (img : List ℕ) (p : ℕ) → Paged scratch.now chart.now img p index → result ≡ along img p index }
 {
     let mut page = chart[index / 16] as usize;
-    let mut links = index % 16;
-    while links != 0 {
+    for _ in 0..index % 16 {
         page = head32(scratch, page, 4);
-        links -= 1;
     }
     page
 }
 
-// The place n bytes on. `left` bytes are left from here on up to the end of the span's pages, of which `more` are continuation
-// pages. Where many are passed, the page is found by its index among them.
-fn leap(
-    image: &[u8],
-    scratch: &[u8],
-    chart: &[u16],
-    more: usize,
-    at: Place,
-    left: usize,
-    n: usize,
-) -> Place
-    requires { Lent image.now scratch.now × Spread image.now chart.now more at left × (n ≤ left) }
-    ensures { Moved image.now at n result }
+// The place n bytes on. `left` bytes are left from here on up to the end of the span's pages. Where many are passed, the page is
+// found by its index among the continuation pages.
+fn leap<'a>(pages: Pages<'a>, at: Place, left: usize, n: usize) -> Place
+    requires { Lent pages.image.now pages.scratch.now × Spread pages.image.now pages.chart.now pages.more at left × (n ≤ left) }
+    ensures { Moved pages.entry.image.now at n result }
 {
     if n <= 16256 {
-        return place_after(image, at, n);
+        return place_after(pages.image, at, n);
     }
-    let passed = 1016 * more - (left - n);
+    let passed = 1016 * pages.more - (left - n);
     let index = (passed - 1) / 1016;
-    let page = nth_page(scratch, chart, index);
+    let page = nth_page(pages.scratch, pages.chart, index);
     Place {
         page,
         offset: 8 + (passed - 1016 * index),
     }
 }
 
-// Reads the entry that follows; `left` bytes are left up to the end of the span's pages, of which `more` are continuation pages.
-fn verify_entry(
-    image: &[u8],
-    scratch: &[u8],
-    chart: &[u16],
-    more: usize,
-    at: Place,
-    left: usize,
-    sort: Sort,
-    last: Last,
-) -> Option<Position>
-    requires { Lent image.now scratch.now × Ready sort image.now at left last × Spread image.now chart.now more at left }
-    ensures { Entering sort image.now at last 1 result }
+// Reads the entry that follows; what is left goes up to the end of the span's pages.
+fn verify_entry<'a>(pages: Pages<'a>, from: Position, sort: Sort) -> Option<Position>
+    requires { Lent pages.image.now pages.scratch.now × Ready sort pages.image.now from.at from.left from.last × Spread pages.image.now pages.chart.now pages.more from.at from.left }
+    ensures { Entering sort pages.entry.image.now from.at from.last 1 result }
 {
-    let offset = at.offset;
-    let skipped = gap(offset, 4);
+    let image = pages.image;
+    let at = from.at;
+    let left = from.left;
+    let skipped = gap(at.offset, 4);
     if left < skipped + 4 {
         return None;
     }
@@ -169,10 +152,10 @@ fn verify_entry(
     if left - skipped - 4 < both {
         return None;
     }
-    if !is_above(image, sort, last, start, key) {
+    if !is_above(image, sort, from.last, start, key) {
         return None;
     }
-    let after = leap(image, scratch, chart, more, start, left - skipped - 4, both);
+    let after = leap(pages, start, left - skipped - 4, both);
     let rank = rank_most(image, start, key, sort);
     Some(Position {
         at: after,
@@ -220,19 +203,17 @@ fn try_entry(image: &[u8], at: Place, sort: Sort, allowed: Lengths, high: usize)
 }
 
 // What is told of the entries that were passed on the page of this place, from there on.
-fn conclude(image: &[u8], at: Place, left: usize, last: Last, passed: Passed) -> Skimmed
-    requires { (sort : Sort) × Skimming sort image.now at left last passed }
-    ensures { (sort : Sort) → Skimming sort image.now at left last passed → Skims sort image.now at last passed.count result }
+fn conclude(image: &[u8], from: Position, passed: Passed) -> Skimmed
+    requires { (sort : Sort) × Skimming sort image.now from.at from.left from.last passed }
+    ensures { (sort : Sort) → Skimming sort image.now from.at from.left from.last passed → Skims sort image.now from.at from.last passed.count result }
 {
     let count = passed.count;
     let before = passed.before;
     let end = passed.end;
     if count == 0 {
-        let to = Position { at, left, last };
-        return Skimmed { count, to };
+        return Skimmed { count, to: from };
     }
-    let page = at.page;
-    let first = at.offset;
+    let page = from.at.page;
     let length = get16(image, page, before);
     let key = Place {
         page,
@@ -240,7 +221,7 @@ fn conclude(image: &[u8], at: Place, left: usize, last: Last, passed: Passed) ->
     };
     let to = Position {
         at: Place { page, offset: end },
-        left: left - (end - first),
+        left: from.left - (end - from.at.offset),
         last: Last {
             at: key,
             length,
@@ -252,33 +233,34 @@ fn conclude(image: &[u8], at: Place, left: usize, last: Last, passed: Passed) ->
 
 // Reads entries, at most `size` of them, up to one that does not lie on the page whole or whose rank does not tell its order. Only
 // offsets, a count and the rank change from entry to entry, so that all of it stays in registers; the rest is told at the end.
-fn skim(image: &[u8], at: Place, left: usize, size: usize, sort: Sort, last: Last) -> Skimmed
-    requires { Ready sort image.now at left last }
-    ensures { Skims sort image.now at last size result }
+fn skim(image: &[u8], from: Position, size: usize, sort: Sort) -> Skimmed
+    requires { Ready sort image.now from.at from.left from.last }
+    ensures { Skims sort image.now from.at from.last size result }
 {
     let allowed = lengths_of(sort);
-    let page = at.page;
-    let mut before = at.offset;
-    let mut offset = at.offset;
-    let mut high = last.rank;
-    let mut i = 0;
-    while i < size {
-        let here = Place { page, offset };
-        let Some(entry) = try_entry(image, here, sort, allowed, high) else {
+    let page = from.at.page;
+    let mut passed = Passed {
+        count: 0,
+        before: from.at.offset,
+        end: from.at.offset,
+        rank: from.last.rank,
+    };
+    for _ in 0..size {
+        let here = Place {
+            page,
+            offset: passed.end,
+        };
+        let Some(entry) = try_entry(image, here, sort, allowed, passed.rank) else {
             break;
         };
-        before = offset;
-        offset = entry.end;
-        high = entry.rank;
-        i += 1;
+        passed = Passed {
+            count: passed.count + 1,
+            before: passed.end,
+            end: entry.end,
+            rank: entry.rank,
+        };
     }
-    let passed = Passed {
-        count: i,
-        before,
-        end: offset,
-        rank: high,
-    };
-    conclude(image, at, left, last, passed)
+    conclude(image, from, passed)
 }
 
 // How many of the `left` entries that follow a key of this rank are skimmed: none where the key before has the same rank, since the
@@ -290,42 +272,27 @@ fn run_after(before: usize, rank: usize, left: usize) -> usize
 }
 
 // Reads `size` entries.
-pub fn verify_entries(
-    image: &[u8],
-    scratch: &[u8],
-    chart: &[u16],
-    more: usize,
-    at: Place,
-    left: usize,
+pub fn verify_entries<'a>(
+    pages: Pages<'a>,
+    from: Position,
     size: usize,
     sort: Sort,
-    last: Last,
 ) -> Option<Position>
-    requires { Lent image.now scratch.now × Ready sort image.now at left last × Spread image.now chart.now more at left }
-    ensures { Entering sort image.now at last size result }
+    requires { Lent pages.image.now pages.scratch.now × Ready sort pages.image.now from.at from.left from.last × Spread pages.image.now pages.chart.now pages.more from.at from.left }
+    ensures { Entering sort pages.entry.image.now from.at from.last size result }
 {
-    let mut here = at;
-    let mut rest = left;
-    let mut key = last;
+    let mut here = from;
     let mut run = size;
     let mut i = 0;
     while i < size {
-        let s = skim(image, here, rest, run, sort, key);
-        let n = s.count;
-        let to = s.to;
-        if size - i <= n {
+        let skimmed = skim(pages.image, here, run, sort);
+        let to = skimmed.to;
+        if size - i <= skimmed.count {
             return Some(to);
         }
-        let after = verify_entry(image, scratch, chart, more, to.at, to.left, sort, to.last)?;
-        here = after.at;
-        rest = after.left;
-        key = after.last;
-        i += n + 1;
-        run = run_after(to.last.rank, key.rank, size - i);
+        here = verify_entry(pages, to, sort)?;
+        i += skimmed.count + 1;
+        run = run_after(to.last.rank, here.last.rank, size - i);
     }
-    Some(Position {
-        at: here,
-        left: rest,
-        last: key,
-    })
+    Some(here)
 }

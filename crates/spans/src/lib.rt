@@ -5,7 +5,7 @@ pub mod claims;
 pub mod entry;
 pub mod span;
 
-ghost use Rattle.std.specs.Prelude.{◌≡◌, ◌≤◌, length};
+ghost use Rattle.std.specs.Prelude.{◌≡◌, ◌≤◌};
 ghost use Rattle.heads.specs.Claims.{Lent};
 ghost use Rattle.walks.specs.Found.{FindsAt};
 ghost use Rattle.order.specs.Sorts.{turn};
@@ -28,12 +28,12 @@ pub struct Counted {
 fn walk_spans(
     image: &[u8],
     scratch: &mut [u8],
-    chart: &mut [u16],
+    chart: &mut [u16; 256],
     start: usize,
     rules: Rules,
     none: Last,
 ) -> Option<Counted>
-    requires { Lent image.now scratch.old × (length chart.old ≡ 256) × (rules.most ≤ 128) × (none.length ≡ 0) × (turn rules.sort ≤ none.rank) }
+    requires { Lent image.now scratch.old × (rules.most ≤ 128) × (none.length ≡ 0) × (turn rules.sort ≤ none.rank) }
     ensures { FindsAt Some (SpansFound rules.sort image.now scratch.old rules.most start) result scratch.new }
 {
     let mut page = start;

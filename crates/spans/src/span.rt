@@ -1,5 +1,4 @@
 // One span: its pages, its fields, its entries.
-ghost use Rattle.std.specs.Prelude.{◌≡◌, length};
 ghost use Rattle.blockfile.specs.Bytes.{pg, be32};
 ghost use Rattle.heads.specs.Claims.{Lent};
 ghost use Rattle.spans.specs.Charts.{Charted};
@@ -7,7 +6,7 @@ ghost use Rattle.spans.specs.Entries.{Met};
 ghost use Rattle.spans.specs.Parts.{ReadySpan, Reading, VerifiedAll};
 
 use crate::claims::claim_span;
-use crate::entry::{Last, verify_entries};
+use crate::entry::{Last, Pages, Position, verify_entries};
 use entries::place::Place;
 use heads::claim::{head16, head32};
 use order::sort::Sort;
@@ -27,23 +26,20 @@ pub struct Spanned {
     pub last: Last,
 }
 
-// Reads the fields and the entries of the span on `page`, which has `more` continuation pages. No page may be left over: fewer
-// bytes than a page holds are left after the entries.
-fn read_span(
-    image: &[u8],
-    scratch: &[u8],
-    chart: &[u16],
+// Reads the fields and the entries of the span on `page`. No page may be left over: fewer bytes than a page holds are left after the
+// entries.
+fn read_span<'a>(
+    pages: Pages<'a>,
     page: usize,
-    more: usize,
     previous: usize,
     rules: Rules,
     last: Last,
 ) -> Option<Spanned>
-    requires { Lent image.now scratch.now × ReadySpan rules.sort image.now page more last × Charted image.now (be32 (pg image.now page) 4) more chart.now }
-    ensures { Reading rules.sort image.now page previous rules.most last result }
+    requires { Lent pages.image.now pages.scratch.now × ReadySpan rules.sort pages.image.now page pages.more last × Charted pages.image.now (be32 (pg pages.image.now page) 4) pages.more pages.chart.now }
+    ensures { Reading rules.sort pages.entry.image.now page previous rules.most last result }
 {
+    let scratch = pages.scratch;
     let most = rules.most;
-    let sort = rules.sort;
     if head32(scratch, page, 8) != previous {
         return None;
     }
@@ -54,18 +50,12 @@ fn read_span(
     if most < size {
         return None;
     }
-    let start = Place { page, offset: 20 };
-    let end = verify_entries(
-        image,
-        scratch,
-        chart,
-        more,
-        start,
-        1004 + 1016 * more,
-        size,
-        sort,
+    let start = Position {
+        at: Place { page, offset: 20 },
+        left: 1004 + 1016 * pages.more,
         last,
-    )?;
+    };
+    let end = verify_entries(pages, start, size, rules.sort)?;
     if 1016 <= end.left {
         return None;
     }
@@ -81,15 +71,21 @@ fn read_span(
 pub fn verify_span(
     image: &[u8],
     scratch: &mut [u8],
-    chart: &mut [u16],
+    chart: &mut [u16; 256],
     page: usize,
     previous: usize,
     rules: Rules,
     last: Last,
 ) -> Option<Spanned>
-    requires { Lent image.now scratch.old × (length chart.old ≡ 256) × Met rules.sort image.now last }
+    requires { Lent image.now scratch.old × Met rules.sort image.now last }
     ensures { VerifiedAll rules.sort image.now scratch.old page previous rules.most last result scratch.new }
 {
     let more = claim_span(scratch, chart, page)?;
-    read_span(image, scratch, chart, page, more, previous, rules, last)
+    let pages = Pages {
+        image,
+        scratch,
+        chart,
+        more,
+    };
+    read_span(pages, page, previous, rules, last)
 }

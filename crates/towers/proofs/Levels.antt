@@ -2,34 +2,45 @@
 use Prim.Native.Nat.{ℕ, zero, suc, ◌+◌, ◌*◌, ◌-◌, ◌/◌, ◌%◌, ◌≤◌, ◌<◌}
 use native.Mathlib.Nat.{add-zero, add_assoc, div-add-mod', mod-lt}
 use native.Mathlib.Omega.{arith}
-use mathlib.Core.Bool.{Bool, false}
+use mathlib.Core.Bool.{Bool}
 use mathlib.Core.Logic.{inr}
-use mathlib.Core.Path.{◌≡◌, sym, ◌∙◌}
+use mathlib.Core.Path.{◌≡◌, ap, sym, ◌∙◌}
 use mathlib.Core.List.{List}
 use lib.ListN.{length, take, drop, get_or, length-take, length-drop}
 use lib.Seq.{sets, length-sets, get_or-take, get_or-drop}
-use borrow.Author.Count.{below_more}
+use Rattle.std.specs.List.{between}
+use Rattle.std.specs.Str.{bytes_eq}
+use Rattle.std.proofs.lemmas.Slice.Eq.{bytes_eq-Decides}
+use Rattle.std.proofs.lemmas.Grind.{same_number_lists}
+use Rattle.std.proofs.lemmas.List.Edits.{get_or-between, length-between}
 use Rattle.blockfile.specs.Bytes.{pg, be16, be32, write}
 use Rattle.laws.specs.Lists.{Agree}
 use Rattle.laws.proofs.Lists.{agree-in, agree-off}
 use Rattle.laws.proofs.Numbers.{be32-agree}
 use Rattle.laws.proofs.Pages.{be32-pg}
 use Rattle.walks.specs.Found.{Decides}
-use Rattle.walks.proofs.Founds.{decides-false}
 use Rattle.towers.specs.Climb.{level_at, Repeats, AllAre, Followed}
 
 -- the lowest level, as the code reads it
 pub lowest-is : (levels : List ℕ) (low : ℕ) → low ≡ be32 (pg levels 1) 16 → level_at levels 0 ≡ low
 lowest-is levels low e = sym (e ∙ be32-pg levels 1 16 (omega arith) (omega arith))
 
--- ---- a loop that compares each byte with that four before
+-- ---- bytes compared with those four before
 
-module _ (levels : List ℕ) (i : ℕ) (t : Bool) where
-  pub repeats-no : (get_or levels (20 + i) 0 ≡ get_or levels (16 + i) 0 → ⊥) → t ≡ false → Decides (Repeats levels (i + 1)) t
-  repeats-no n e = rw e (decides-false (λ r. n (r i (omega arith))))
-
-  pub repeats-so : (s : Bool) → Decides (Repeats levels i) s → get_or levels (20 + i) 0 ≡ get_or levels (16 + i) 0 → t ≡ s → Decides (Repeats levels (i + 1)) t
-  repeats-so s d h e = rw e (record { sound = λ y. below_more (λ k. get_or levels (20 + k) 0 ≡ get_or levels (16 + k) 0) i (d.sound y) h; complete = λ r. d.complete (λ k l. r k (omega arith)) })
+pub repeats_are : (levels : List ℕ) (n : ℕ) (r : Bool) → 20 + n ≤ length levels → r ≡ bytes_eq (between 20 (20 + n) levels) (between 16 (16 + n) levels)
+    → Decides (Repeats levels n) r
+repeats_are levels n r fits is =
+    let above : List ℕ = between 20 (20 + n) levels in
+    let below : List ℕ = between 16 (16 + n) levels in
+    let up : (i : ℕ) → i < n → get_or above i 0 ≡ get_or levels (20 + i) 0 = λ i l. get_or-between levels 20 (20 + n) i 0 (omega arith) in
+    let here : (i : ℕ) → i < n → get_or below i 0 ≡ get_or levels (16 + i) 0 = λ i l. get_or-between levels 16 (16 + n) i 0 (omega arith) in
+    let long : length above ≡ n = omega (arith, length-between levels 20 (20 + n) (omega arith)) in
+    let wide : length below ≡ n = omega (arith, length-between levels 16 (16 + n) (omega arith)) in
+    let d = bytes_eq-Decides above below in
+    record {
+      sound = λ y i l. sym (up i l) ∙ ap (λ (s : List ℕ). get_or s i 0) (d.0 (sym is ∙ y)) ∙ here i l;
+      complete = λ f. is ∙ d.1 (same_number_lists above below (omega arith) (λ i l. let m : i < n = omega arith in up i m ∙ f i m ∙ sym (here i m)));
+    }
 
 -- ---- all the same: the first, and each byte as that of the level below
 

@@ -1,7 +1,7 @@
 // The towers of a table, after its spans: the head, which stands on the first span, and the towers of the other spans.
 #![tactic(auto)]
 
-ghost use Rattle.std.specs.Prelude.{◌≡◌, ℕ, ◌+◌, ◌*◌, ◌≤◌, List, length};
+ghost use Rattle.std.specs.Prelude.{ℕ, ◌+◌, ◌*◌, ◌≤◌, List};
 ghost use Rattle.blockfile.specs.Layout.{Span};
 ghost use Rattle.pages.specs.Places.{Inside};
 ghost use Rattle.heads.specs.Claims.{Lent, Kept};
@@ -16,40 +16,26 @@ use pages::write::put_bytes;
 
 // The levels are the entries of a tower: the page expected at level i stands at 16 + 4·i of a page of their own.
 
-// Whether the `n` bytes from 20 on are each the one that stands four before it. The loop goes over all of them, so that it takes
-// many in a step.
-fn repeats(levels: &[u8], n: usize) -> bool
-    requires { 20 + n ≤ length levels.now }
+// Whether the `n` bytes from 20 on are each the one that stands four before it.
+#[tactic(auto, using(crate::proofs::Levels::repeats_are))]
+fn repeats(levels: &[u8; 1024], n: usize) -> bool
+    requires { 20 + n ≤ 1024 }
     ensures { Decides (Repeats levels.now n) result }
 {
-    let mut same = true;
-    let mut i = 0;
-    while i < n {
-        if levels[20 + i] != levels[16 + i] {
-            same = false;
-        }
-        i += 1;
-    }
-    same
+    levels[20..20 + n] == levels[16..16 + n]
 }
 
 // Whether the first `n` levels all expect page `v`: the lowest does, and each has the bytes of the one below it.
-fn all_are(levels: &[u8], n: usize, v: usize) -> bool
-    requires { (n ≤ 252) × (length levels.now ≡ 1024) }
+fn all_are(levels: &[u8; 1024], n: usize, v: usize) -> bool
+    requires { n ≤ 252 }
     ensures { Decides (AllAre levels.now n v) result }
 {
-    if n == 0 {
-        return true;
-    }
-    if get32(levels, 1, 16) != v {
-        return false;
-    }
-    repeats(levels, 4 * n - 4)
+    n == 0 || get32(levels, 1, 16) == v && repeats(levels, 4 * n - 4)
 }
 
 // The first `height` levels now expect the entries of the tower on `page`.
-fn follow(image: &[u8], levels: &mut [u8], page: usize, height: usize)
-    requires { Inside image.now page 16 (4 * height) × (length levels.old ≡ 1024) }
+fn follow(image: &[u8], levels: &mut [u8; 1024], page: usize, height: usize)
+    requires { Inside image.now page 16 (4 * height) }
     ensures { Followed image.now page height levels.old levels.new }
 {
     let at = 1024 * (page - 1) + 16;
@@ -76,11 +62,7 @@ fn reaches(scratch: &[u8], start: usize, target: usize) -> bool
 fn is_tall(low: usize, high: usize, max: usize, height: usize) -> bool
     ensures { Decides (Tall low high max height) result }
 {
-    if 1 <= max && max <= 252 && height <= max && low <= height && height <= high {
-        true
-    } else {
-        false
-    }
+    1 <= max && max <= 252 && height <= max && low <= height && height <= high
 }
 
 // Claims the tower on `page`, whose current height must be `low` to `high`; answers that height.
@@ -102,12 +84,12 @@ fn claim_tower(scratch: &mut [u8], page: usize, low: usize, high: usize) -> Opti
 // answers its height.
 fn place_tower(
     scratch: &mut [u8],
-    levels: &[u8],
+    levels: &[u8; 1024],
     start: usize,
     page: usize,
     top: usize,
 ) -> Option<usize>
-    requires { (top ≤ 252) × (length levels.now ≡ 1024) × HasWay scratch.old start }
+    requires { (top ≤ 252) × HasWay scratch.old start }
     ensures { (img : List ℕ) → Lent img scratch.old → Linked img start
         → FindsAt Some (Placed img scratch.old top levels.now start page) result scratch.new }
 {

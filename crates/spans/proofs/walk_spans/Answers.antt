@@ -5,55 +5,46 @@ use Rattle.spans.proofs.Tables.{counting-start, counting-wrong, counting-empty, 
 use Rattle.spans.proofs.walk_spans.Goals as goal
 
 pub loop-span-init : goal.loop-span-init
-loop-span-init c = let p = c.requires in (counting-start _ _ _ _ _ p.3 p.4 p.0, omega arith)
+loop-span-init c = let p = c.requires in counting-start _ _ _ _ _ p.2 p.3 p.0
 
 pub verify_span-requires : goal.verify_span-requires
 verify_span-requires c =
     let l = c.loop-span.invariant in
-    (l.0.lent, l.1 ∙ c.requires.1, l.0.met)
+    (l.lent, l.met)
 
 pub returns-in_err-span : goal.returns-in_err-span
-returns-in_err-span c = rw c.from_residual.ensures (counting-wrong c.loop-span.invariant.0 c.verify_span.ensures c.in_err-span.was)
+returns-in_err-span c = rw c.from_residual.ensures (counting-wrong c.loop-span.invariant c.verify_span.ensures c.in_err-span.was)
 
 pub returns-then-spans-ne0 : goal.returns-then-spans-ne0
-returns-then-spans-ne0 c = counting-empty c.loop-span.invariant.0 c.verify_span.ensures c.in_ok-span.was c.if-span-eq0.true (omega (arith, c.if-spans-ne0.true))
+returns-then-spans-ne0 c = counting-empty c.loop-span.invariant c.verify_span.ensures c.in_ok-span.was c.if-span-eq0.true (omega (arith, c.if-spans-ne0.true))
 
 pub overflow_add-keys : goal.overflow_add-keys
 overflow_add-keys c =
-    let l = c.loop-span.invariant.0 in
-    let f = (counting-fell c.loop-span.invariant.0 c.verify_span.ensures c.in_ok-span.was (omega arith)) in
+    let l = c.loop-span.invariant in
+    let f = (counting-fell c.loop-span.invariant c.verify_span.ensures c.in_ok-span.was (omega arith)) in
     let room = c.requires.0.room in
     omega (arith, f.few, l.small, l.few, unclaimed-most c.args.scratch.now, room.whole, room.most)
 
 pub overflow_add-spans : goal.overflow_add-spans
 overflow_add-spans c =
-    let l = c.loop-span.invariant.0 in
+    let l = c.loop-span.invariant in
     let room = c.requires.0.room in
     omega (arith, l.few, unclaimed-most c.args.scratch.now, room.whole, room.most)
 
 pub returns-then-span-eq0-2 : goal.returns-then-span-eq0-2
-returns-then-span-eq0-2 c = counting-end c.loop-span.invariant.0 c.verify_span.ensures c.in_ok-span.was (λ m z. omega (arith, m, z, c.else-span-eq0.either)) c.if-span-eq0-2.true
+returns-then-span-eq0-2 c = counting-end c.loop-span.invariant c.verify_span.ensures c.in_ok-span.was (λ m z. omega (arith, m, z, c.else-span-eq0.either)) c.if-span-eq0-2.true
 
 pub loop-span-smaller : goal.loop-span-smaller
-loop-span-smaller c = (counting-fell c.loop-span.invariant.0 c.verify_span.ensures c.in_ok-span.was (omega arith)).less
+loop-span-smaller c = (counting-fell c.loop-span.invariant c.verify_span.ensures c.in_ok-span.was (omega arith)).less
 
 pub loop-span-preserved : goal.loop-span-preserved
-loop-span-preserved c = (counting-next c.loop-span.invariant.0 c.verify_span.ensures c.in_ok-span.was (λ m z. omega (arith, m, z, c.else-span-eq0.either)) c.if-span-eq0-2.false (omega arith), (c.verify_span.auto.chart ∙ c.loop-span.invariant.1))
+loop-span-preserved c = counting-next c.loop-span.invariant c.verify_span.ensures c.in_ok-span.was (λ m z. omega (arith, m, z, c.else-span-eq0.either)) c.if-span-eq0-2.false (omega arith)
 
 pub shape_of-scratch-in_err-span : goal.shape_of-scratch-in_err-span
-shape_of-scratch-in_err-span c = (c.verify_span.auto.scratch ∙ c.loop-span.invariant.0.kept)
-
-pub shape_of-chart-in_err-span : goal.shape_of-chart-in_err-span
-shape_of-chart-in_err-span c = (c.verify_span.auto.chart ∙ c.loop-span.invariant.1)
+shape_of-scratch-in_err-span c = (c.verify_span.auto.scratch ∙ c.loop-span.invariant.kept)
 
 pub shape_of-scratch-then-spans-ne0 : goal.shape_of-scratch-then-spans-ne0
-shape_of-scratch-then-spans-ne0 c = (c.verify_span.auto.scratch ∙ c.loop-span.invariant.0.kept)
-
-pub shape_of-chart-then-spans-ne0 : goal.shape_of-chart-then-spans-ne0
-shape_of-chart-then-spans-ne0 c = (c.verify_span.auto.chart ∙ c.loop-span.invariant.1)
+shape_of-scratch-then-spans-ne0 c = (c.verify_span.auto.scratch ∙ c.loop-span.invariant.kept)
 
 pub shape_of-scratch-then-span-eq0-2 : goal.shape_of-scratch-then-span-eq0-2
-shape_of-scratch-then-span-eq0-2 c = (c.verify_span.auto.scratch ∙ c.loop-span.invariant.0.kept)
-
-pub shape_of-chart-then-span-eq0-2 : goal.shape_of-chart-then-span-eq0-2
-shape_of-chart-then-span-eq0-2 c = (c.verify_span.auto.chart ∙ c.loop-span.invariant.1)
+shape_of-scratch-then-span-eq0-2 c = (c.verify_span.auto.scratch ∙ c.loop-span.invariant.kept)

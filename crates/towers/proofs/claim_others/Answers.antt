@@ -20,7 +20,7 @@ loop-page-init c =
     climbing-start _ _ _ _ _ _ _ c.requires.0 c.requires.2 refl refl c.follow.ensures _ c.get32-page.ensures.is
 
 pub place_tower-requires : goal.place_tower-requires
-place_tower-requires c = let inv = c.loop-page.invariant in (omega arith, omega arith, record { image = _; lent = inv.lent; linked = inv.linked })
+place_tower-requires c = let inv = c.loop-page.invariant in (omega arith, record { image = _; lent = inv.lent; linked = inv.linked })
 
 pub returns-in_err-height : goal.returns-in_err-height
 returns-in_err-height c =
@@ -31,7 +31,7 @@ pub follow-requires-in-loop-page : goal.follow-requires-in-loop-page
 follow-requires-in-loop-page c =
     let inv = c.loop-page.invariant in
     let t = climbing-turn _ _ _ _ _ _ _ _ _ _ inv c.loop-page-test.true _ _ (c.place_tower.ensures _ inv.lent inv.linked) _ c.in_ok-height.was in
-    (record { small = omega arith; low = t.low; high = t.high; fits = omega arith }, omega arith)
+    record { small = omega arith; low = t.low; high = t.high; fits = omega arith }
 
 pub head32-span-requires : goal.head32-span-requires
 head32-span-requires c =
@@ -77,23 +77,14 @@ slice_bounds-get32-end c = sym c.follow.ensures.long
 pub get32-page-requires : goal.get32-page-requires
 get32-page-requires c = in-levels _ c.follow.ensures.long
 
-pub slice_bounds-place_tower-end : goal.slice_bounds-place_tower-end
-slice_bounds-place_tower-end c = sym c.loop-page.invariant.wide
-
 pub shape_of-scratch-in_err-height : goal.shape_of-scratch-in_err-height
 shape_of-scratch-in_err-height c = c.place_tower.auto.scratch ∙ c.loop-page.invariant.long
-
-pub slice_bounds-follow-end-in-loop-page : goal.slice_bounds-follow-end-in-loop-page
-slice_bounds-follow-end-in-loop-page c = sym c.loop-page.invariant.wide
 
 pub loop-page-smaller : goal.loop-page-smaller
 loop-page-smaller c =
     let inv = c.loop-page.invariant in
     let t = climbing-turn _ _ _ _ _ _ _ _ _ _ inv c.loop-page-test.true _ _ (c.place_tower.ensures _ inv.lent inv.linked) _ c.in_ok-height.was in
     omega (arith, t.falls)
-
-pub slice_bounds-all_are-end : goal.slice_bounds-all_are-end
-slice_bounds-all_are-end c = sym c.loop-page.invariant.wide
 
 pub shape_of-scratch-then-not-all_are : goal.shape_of-scratch-then-not-all_are
 shape_of-scratch-then-not-all_are c = c.loop-page.invariant.long

@@ -10,4 +10,4 @@ returns c =
     let at = 1024 * (c.args.page - 1) + 16 in
     let long : at + 4 * c.args.height - at ≡ 4 * c.args.height = omega arith in
     rw (c.put_bytes.ensures, long)
-    (followed c.args.image.now c.args.page c.args.height c.args.levels.now c.requires.0.low c.requires.0.high c.requires.0.fits c.requires.1)
+    (followed c.args.image.now c.args.page c.args.height c.args.levels.now c.requires.low c.requires.high c.requires.fits (omega arith))

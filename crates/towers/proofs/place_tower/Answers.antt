@@ -8,13 +8,13 @@ returns-in_err-height c img lent linked = rw c.from_residual.ensures (placed-no 
 
 pub head32-span-requires : goal.head32-span-requires
 head32-span-requires c =
-    let p = c.requires.2 in
+    let p = c.requires.1 in
     let f = (c.claim_tower.ensures p.image p.lent).sound _ c.in_ok-height.was in
     found-in-head f p.lent (omega arith)
 
 pub reaches-requires : goal.reaches-requires
 reaches-requires c =
-    let p = c.requires.2 in
+    let p = c.requires.1 in
     let f = (c.claim_tower.ensures p.image p.lent).sound _ c.in_ok-height.was in
     record { image = p.image; lent = found-lent _ _ _ _ _ _ _ f p.lent; linked = p.linked }
 
@@ -29,8 +29,8 @@ returns-then-not-reaches c img lent linked =
 pub all_are-requires : goal.all_are-requires
 all_are-requires c =
     let p = c.requires in
-    let f = (c.claim_tower.ensures p.2.image p.2.lent).sound _ c.in_ok-height.was in
-    (omega (arith, p.0, f.tall.high), omega arith)
+    let f = (c.claim_tower.ensures p.1.image p.1.lent).sound _ c.in_ok-height.was in
+    omega (arith, p.0, f.tall.high)
 
 pub returns-then-not-all_are : goal.returns-then-not-all_are
 returns-then-not-all_are c img lent linked =
@@ -49,4 +49,4 @@ returns c img lent linked =
     _ c.all_are.ensures c.if-not-reaches.false c.if-not-all_are.false
 
 pub claim_tower-requires : goal.claim_tower-requires
-claim_tower-requires c = (c.requires.2.image, c.requires.2.lent)
+claim_tower-requires c = (c.requires.1.image, c.requires.1.lent)

@@ -5,15 +5,10 @@ use Rattle.spans.proofs.PageClaims.{noting-start, noting-end, noting-no, noting-
 use Rattle.spans.proofs.claims.claim_conts.Goals as goal
 
 pub loop-page-init : goal.loop-page-init
-loop-page-init c img lent = noting-start _ _ _ _ lent c.requires.1
+loop-page-init c img lent = noting-start _ _ _ _ lent (omega arith)
 
 pub shape_of-scratch-then-not-claim : goal.shape_of-scratch-then-not-claim
-shape_of-scratch-then-not-claim c = let k = c.requires.0 in c.claim.auto.scratch ∙ (c.loop-page.invariant k.0 k.1).claiming.kept
-
-pub shape_of-chart-then-not-claim : goal.shape_of-chart-then-not-claim
-shape_of-chart-then-not-claim c =
-    let k = c.requires.0 in
-    omega (arith, (c.loop-page.invariant k.0 k.1).charted.long, c.requires.1)
+shape_of-scratch-then-not-claim c = let k = c.requires in c.claim.auto.scratch ∙ (c.loop-page.invariant k.0 k.1).claiming.kept
 
 pub returns-then-not-claim : goal.returns-then-not-claim
 returns-then-not-claim c img lent =
@@ -22,26 +17,26 @@ returns-then-not-claim c img lent =
 
 pub note-requires : goal.note-requires
 note-requires c =
-    let k = c.requires.0 in
+    let k = c.requires in
     let w = c.loop-page.invariant k.0 k.1 in
     let few = noting-few w c.loop-page-test.true (c.claim.ensures k.0 w.claiming.lent) c.if-not-claim.false in
-    (w.charted.long, few.0, few.1)
+    few
 
 pub overflow_add-count : goal.overflow_add-count
 overflow_add-count c =
-    let k = c.requires.0 in
+    let k = c.requires in
     let w = c.loop-page.invariant k.0 k.1 in
     omega (arith, (noting-few w c.loop-page-test.true (c.claim.ensures k.0 w.claiming.lent) c.if-not-claim.false).0)
 
 pub head32-page-requires : goal.head32-page-requires
 head32-page-requires c =
-    let k = c.requires.0 in
+    let k = c.requires in
     let w = c.loop-page.invariant k.0 k.1 in
     claim-in-head (c.claim.ensures k.0 w.claiming.lent) c.if-not-claim.false w.claiming.lent (omega arith)
 
 pub loop-page-smaller : goal.loop-page-smaller
 loop-page-smaller c =
-    let k = c.requires.0 in
+    let k = c.requires in
     let w = c.loop-page.invariant k.0 k.1 in
     omega (arith, claim-falls (c.claim.ensures k.0 w.claiming.lent) c.if-not-claim.false)
 
@@ -54,10 +49,7 @@ loop-page-preserved c img lent =
     (claim-head32 claim done w.claiming.lent (omega arith) (omega arith) c.head32-page.ensures).is
 
 pub shape_of-scratch : goal.shape_of-scratch
-shape_of-scratch c = let k = c.requires.0 in (c.loop-page.invariant k.0 k.1).claiming.kept
-
-pub shape_of-chart : goal.shape_of-chart
-shape_of-chart c = omega (arith, (c.loop-page.invariant c.requires.0.0 c.requires.0.1).charted.long, c.requires.1)
+shape_of-scratch c = let k = c.requires in (c.loop-page.invariant k.0 k.1).claiming.kept
 
 pub returns : goal.returns
 returns c img lent = noting-end (c.loop-page.invariant img lent) c.loop-page-test.false

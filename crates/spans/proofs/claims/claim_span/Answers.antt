@@ -1,19 +1,18 @@
 -- `spans::claims::claim_span` meets its contract: the span's page, then its continuation pages.
 use native.Mathlib.Omega.{arith}
-use borrow.Author.Rules.{rules}
 use Rattle.walks.proofs.Pieces.{claim-lent, claim-in-head, claim-head32}
 use Rattle.spans.proofs.PageClaims.{pages-no, pages-then}
 use Rattle.spans.proofs.claims.claim_span.Goals as goal
 
 pub head32-first-requires : goal.head32-first-requires
 head32-first-requires c =
-    let k = c.requires.0 in
+    let k = c.requires in
     claim-in-head (c.claim.ensures k.0 k.1) c.if-claim.true k.1 (omega arith)
 
 pub claim_conts-requires : goal.claim_conts-requires
 claim_conts-requires c =
-    let k = c.requires.0 in
-    ((k.0, claim-lent (c.claim.ensures k.0 k.1) c.if-claim.true k.1), search rules)
+    let k = c.requires in
+    (k.0, claim-lent (c.claim.ensures k.0 k.1) c.if-claim.true k.1)
 
 pub returns-then-claim : goal.returns-then-claim
 returns-then-claim c img lent =

@@ -5,7 +5,7 @@ use Rattle.spans.proofs.Runs.{Walking}
 use Rattle.spans.proofs.entry.verify_entries.Given as goal
 
 abbrev pub invariant-loop-i : goal.invariant-loop-i
-invariant-loop-i l = Walking l.sort l.image l.initial.here l.initial.key l.here l.rest l.key l.i × (l.i ≤ l.size) × Spread l.image l.chart l.more l.here l.rest × (l.run ≤ l.size - l.i)
+invariant-loop-i l = Walking l.sort l.pages.image.now l.initial.here.at l.initial.here.last l.here.at l.here.left l.here.last l.i × (l.i ≤ l.size) × Spread l.pages.image.now l.pages.chart.now l.pages.more l.here.at l.here.left × (l.run ≤ l.size - l.i)
 
 abbrev pub decreases-loop-i : goal.decreases-loop-i
 decreases-loop-i l = l.size - l.i

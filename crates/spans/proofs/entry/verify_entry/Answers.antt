@@ -7,7 +7,7 @@ use Rattle.spans.proofs.Charts.{spread-on}
 use Rattle.spans.proofs.entry.verify_entry.Goals as goal
 
 pub overflow_add-skipped : goal.overflow_add-skipped
-overflow_add-skipped c = omega (arith, c.gap-skipped.ensures, gap-most c.args.at.offset 4)
+overflow_add-skipped c = omega (arith, c.gap-skipped.ensures, gap-most c.args.from.at.offset 4)
 
 pub returns-then-left-skipped : goal.returns-then-left-skipped
 returns-then-left-skipped c = entry-short c.requires.1 c.gap-skipped.ensures c.if-left-skipped.true

@@ -9,7 +9,7 @@ pub read_span-requires : goal.read_span-requires
 read_span-requires c =
     let p = c.requires in
     let held = c.in_ok-more.was in
-    (verify-lent p.0 (c.claim_span.ensures _ c.requires.0).found held, verify-ready p.0 (c.claim_span.ensures _ c.requires.0).found held p.2, (c.claim_span.ensures _ c.requires.0).charted _ held)
+    (verify-lent p.0 (c.claim_span.ensures _ c.requires.0).found held, verify-ready p.0 (c.claim_span.ensures _ c.requires.0).found held p.1, (c.claim_span.ensures _ c.requires.0).charted _ held)
 
 pub returns : goal.returns
 returns c = verify-done c.requires.0 (c.claim_span.ensures _ c.requires.0).found c.in_ok-more.was c.read_span.ensures
