@@ -7,7 +7,7 @@ use native.Mathlib.Nat.{eq_of_mul-eq-mul_right, le_of_suc-le-suc, not-suc-le-zer
 use lib.ListN.{length, take, drop, get_or, length-drop}
 use lib.Seq.{length-take-le, take_all}
 use native.Mathlib.Omega.{arith}
-use borrow.Author.Tests.{lt-leb}
+use borrow.Author.Tests.{lt-leb, eqb-true, eqb-false}
 use lib.Pow.{pow_pos}
 use lib.Dec.{T, eqb, leb, eqb→eq, leb→le}
 use Rattle.blockfile.specs.Bytes.{be64, Every}
@@ -118,7 +118,7 @@ module _ (b : List ℕ) (o k : ℕ) (long : o + 8 ≤ length b) (h : k < 7) (kno
   cut-here = rw (here, be64-lead b o, mark-length k h) (cut-is k h (drop o b) low)
 
   -- THE BYTES BEGIN WITH THE MARK EXACTLY IF THE NUMBERS, CUT OFF BEHIND IT, ARE EQUAL
-  pub bears-so : cut_off k x ≡ cut_off k (get_or table k 0) → true ≡ begins (get_or marks k []) (drop o b)
+  bears-so : cut_off k x ≡ cut_off k (get_or table k 0) → true ≡ begins (get_or marks k []) (drop o b)
   bears-so e =
       let m : List ℕ = get_or marks k [] in
       let room : length m ≤ length (drop o b) = rw length-drop (omega (arith, long, mark-length k h, mark-short k h)) in
@@ -127,7 +127,7 @@ module _ (b : List ℕ) (o k : ℕ) (long : o + 8 ≤ length b) (h : k < 7) (kno
       (lead-same 8 (take (length m) (drop o b)) m (bytes_take (length m) (drop o b) low) (mark-bytes k h) long_as (omega (arith, long_as, mark-length k h, mark-short k h))
       (sym cut-here ∙ ap (λ (y : ℕ). y * 2 ^ (64 - 8 * get_or lengths k 0)) e ∙ cut-mark k h)))
 
-  pub bears-not : (cut_off k x ≡ cut_off k (get_or table k 0) → ⊥) → false ≡ begins (get_or marks k []) (drop o b)
+  bears-not : (cut_off k x ≡ cut_off k (get_or table k 0) → ⊥) → false ≡ begins (get_or marks k []) (drop o b)
   bears-not n = go (begins (get_or marks k []) (drop o b)) refl
     where
       go : (t : Bool) → begins (get_or marks k []) (drop o b) ≡ t → false ≡ t
@@ -135,6 +135,13 @@ module _ (b : List ℕ) (o k : ℕ) (long : o + 8 ≤ length b) (h : k < 7) (kno
       go true e =
           absurd (n (eq_of_mul-eq-mul_right _ (pow_pos (64 - 8 * get_or lengths k 0)) _ _
           (cut-here ∙ ap (lead 8) (begins-take (get_or marks k []) (drop o b) e) ∙ sym (cut-mark k h))))
+
+  pub bears-same : eqb (cut_off k x) (cut_off k (get_or table k 0)) ≡ begins (get_or marks k []) (drop o b)
+  bears-same = go (eqb (cut_off k x) (cut_off k (get_or table k 0))) refl
+    where
+      go : (t : Bool) → eqb (cut_off k x) (cut_off k (get_or table k 0)) ≡ t → t ≡ begins (get_or marks k []) (drop o b)
+      go true e = bears-so (eqb-true _ _ e)
+      go false e = bears-not (eqb-false _ _ e)
 
 -- no mark begins with 0 or with 255
 module _ (k : ℕ) (h : k < 7) where

@@ -8,6 +8,9 @@ use mathlib.Core.Path.{◌≡◌, refl, ap, sym, ◌∙◌}
 use mathlib.Core.List.{List, [], ◌∷◌, ◌++◌, append_assoc}
 use lib.ListN.{length, get_or, take, drop, set, replicate, length-append, length-set, length-take, length-drop}
 use lib.Seq.{sets, take_all}
+use Rattle.std.proofs.lemmas.List.Edits.{paste_all, sets-eq}
+use Rattle.std.proofs.lemmas.Slice.{put_mid-paste}
+use borrow.Rule.Slice.PartMut.{put_mid}
 use Rattle.blockfile.specs.Bytes.{write, word32, padded}
 use Rattle.pages.specs.Places.{Chunk}
 use Rattle.laws.proofs.Lists.{sets-turn}
@@ -40,6 +43,10 @@ module _ {img₀ : List ℕ} {n o : ℕ} {bs : List ℕ} {w a : ℕ} {img : List
 
   pub stored-all : w ≤ i → 1 ≤ n → img ≡ write img₀ n o bs
   stored-all l h = rw (write-from img₀ n o bs h) (stored_here l ∙ ap (λ (k : ℕ). sets img₀ k bs) s.start)
+
+-- bytes ys written over a part, which are zs
+pub put_mid-sets : (a k : ℕ) (xs : List ℕ) {ys zs : List ℕ} → ys ≡ zs → length zs ≡ k → a + length zs ≤ length xs → put_mid a k xs ys ≡ sets xs a zs
+put_mid-sets a k xs {ys} {zs} e n h = put_mid-paste a k xs ys zs (length zs) e n refl ∙ paste_all xs a zs (length zs) refl ∙ sym (append_assoc (take a xs) zs (drop (a + length zs) xs)) ∙ sym (sets-eq zs xs a h)
 
 -- two and four bytes stored one after another
 pub sets-two : (l : List ℕ) (a x y : ℕ) → set (set l a x) (a + 1) y ≡ sets l a (x ∷ y ∷ [])

@@ -42,8 +42,5 @@ pub fn bears(bytes: &[u8], at: usize, kind: usize) -> bool
     ensures { result ≡ begins (get_or marks kind []) (drop at bytes.now) }
 {
     let behind = 64 - 8 * MARK_LENGTHS[kind];
-    if word64(bytes, at) >> behind == MARKS[kind] >> behind {
-        return true;
-    }
-    false
+    word64(bytes, at) >> behind == MARKS[kind] >> behind
 }

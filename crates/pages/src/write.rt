@@ -48,11 +48,8 @@ pub fn copy_bytes(into: &mut [u8], from: usize, src: &[u8])
     requires { from + length src.now ≤ length into.old }
     ensures { into.new ≡ sets into.old from src.now }
 {
-    let mut i = 0;
-    while i < src.len() {
-        into[from + i] = src[i];
-        i += 1;
-    }
+    let end = from + src.len();
+    into[from..end].copy_from_slice(src)
 }
 
 // All of src.
@@ -69,11 +66,8 @@ pub fn put_zeros(image: &mut [u8], page: usize, offset: usize, n: usize)
     ensures { image.new ≡ write image.old page offset (replicate n 0) }
 {
     let at = 1024 * (page - 1) + offset;
-    let mut i = 0;
-    while i < n {
-        image[at + i] = 0;
-        i += 1;
-    }
+    let end = at + n;
+    image[at..end].fill(0)
 }
 
 // The mark of a kind, at the start of the page.
@@ -96,7 +90,7 @@ fn chunk(len: usize, from: usize) -> usize
     requires { from ≤ len }
     ensures { Chunk len from result }
 {
-    if len - from < 1016 { len - from } else { 1016 }
+    (len - from).min(1016)
 }
 
 // A page of a stream, written whole: its mark, its link, the bytes of src from byte `from` on, zeros where src ends.
@@ -117,9 +111,5 @@ pub fn clear(bytes: &mut [u8], n: usize)
     requires { n ≤ length bytes.old }
     ensures { bytes.new ≡ replicate n 0 ++ drop n bytes.old }
 {
-    let mut i = 0;
-    while i < n {
-        bytes[i] = 0;
-        i += 1;
-    }
+    bytes[..n].fill(0)
 }
