@@ -3,9 +3,10 @@ ghost use Rattle.std.specs.Prelude.{◌≡◌, [], ◌++◌, ◌+◌, ◌≤◌,
 ghost use Rattle.std.proofs.lemmas.List.Edits.{sets};
 ghost use Rattle.blockfile.specs.Bytes.{word16, word32, write, padded};
 ghost use Rattle.blockfile.specs.Marks.{marks};
+ghost use Rattle.pages.specs.Kinds.{kind_at};
 ghost use Rattle.pages.specs.Places.{Inside, Chunk};
 
-use crate::mark::{MARK_LENGTHS, MARKS};
+use crate::mark::{Kind, mark};
 
 // A number as two bytes of any slice.
 pub fn store16(bytes: &mut [u8], at: usize, v: usize)
@@ -71,18 +72,12 @@ pub fn put_zeros(image: &mut [u8], page: usize, offset: usize, n: usize)
 }
 
 // The mark of a kind, at the start of the page.
-pub fn put_mark(image: &mut [u8], page: usize, kind: usize)
-    requires { (kind < 7) × Inside image.old page 0 8 }
-    ensures { image.new ≡ write image.old page 0 (get_or marks kind []) }
+pub fn put_mark(image: &mut [u8], page: usize, kind: Kind)
+    requires { Inside image.old page 0 8 }
+    ensures { image.new ≡ write image.old page 0 (get_or marks (kind_at kind) []) }
 {
-    let at = 1024 * (page - 1);
-    let mark = MARKS[kind];
-    let n = MARK_LENGTHS[kind];
-    let mut i = 0;
-    while i < n {
-        image[at + i] = ((mark >> (56 - 8 * i)) % 256) as u8;
-        i += 1;
-    }
+    let (number, length) = mark(kind);
+    put_bytes(image, page, 0, &number.to_be_bytes()[..length])
 }
 
 // How many bytes of a stream of `len` bytes stand on its page from byte `from` on.
@@ -94,9 +89,9 @@ fn chunk(len: usize, from: usize) -> usize
 }
 
 // A page of a stream, written whole: its mark, its link, the bytes of src from byte `from` on, zeros where src ends.
-pub fn put_page(image: &mut [u8], page: usize, kind: usize, link: usize, src: &[u8], from: usize)
-    requires { (kind < 7) × (length (get_or marks kind []) ≡ 4) × Inside image.old page 0 1024 × (from ≤ length src.now) }
-    ensures { image.new ≡ write image.old page 0 (get_or marks kind [] ++ (word32 link ++ padded 1016 (take 1016 (drop from src.now)))) }
+pub fn put_page(image: &mut [u8], page: usize, kind: Kind, link: usize, src: &[u8], from: usize)
+    requires { (length (get_or marks (kind_at kind) []) ≡ 4) × Inside image.old page 0 1024 × (from ≤ length src.now) }
+    ensures { image.new ≡ write image.old page 0 (get_or marks (kind_at kind) [] ++ (word32 link ++ padded 1016 (take 1016 (drop from src.now)))) }
 {
     put_mark(image, page, kind);
     put32(image, page, 4, link);
