@@ -5,7 +5,7 @@ ghost use Rattle.spans.specs.Charts.{Noted};
 ghost use Rattle.spans.specs.Parts.{ContsClaimed, PagesClaimed};
 
 use heads::claim::{claim, head32};
-use pages::mark;
+use pages::mark::Kind;
 
 // Pages that were claimed: refused, or held, with the number of continuation pages.
 #[derive(Clone, Copy)]
@@ -33,7 +33,7 @@ fn claim_conts(scratch: &mut [u8], chart: &mut [u16], start: usize) -> Claims
     let mut page = start;
     let mut count = 0;
     while page != 0 {
-        if !claim(scratch, page, mark::CONTINUATION) {
+        if !claim(scratch, page, Kind::Continuation) {
             return Claims::Refused;
         }
         note(chart, count, page);
@@ -48,7 +48,7 @@ pub fn claim_span(scratch: &mut [u8], chart: &mut [u16], page: usize) -> Claims
     requires { Kept scratch.old × (length chart.old ≡ 256) }
     ensures { (img : List ℕ) → Lent img scratch.old → PagesClaimed img scratch.old page result scratch.new chart.new }
 {
-    if claim(scratch, page, mark::SPAN) {
+    if claim(scratch, page, Kind::Span) {
         let first = head32(scratch, page, 4);
         return claim_conts(scratch, chart, first);
     }

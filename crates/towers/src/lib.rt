@@ -11,7 +11,7 @@ ghost use Rattle.towers.specs.Towers.{Spanned, HasSpans, TowersFound};
 ghost use Rattle.towers.specs.Climb.{Repeats, AllAre, Followed, Linked, HasWay, Reach, Tall, TowerFound, Placed, Climb, entry_at};
 
 use heads::claim::{claim, head16, head32};
-use pages::mark::TOWER;
+use pages::mark::Kind;
 use pages::read::get32;
 use pages::write::put_bytes;
 use walks::Walked;
@@ -90,7 +90,7 @@ fn claim_tower(scratch: &mut [u8], page: usize, low: usize, high: usize) -> Walk
     requires { Kept scratch.old }
     ensures { (img : List ℕ) → Lent img scratch.old → FindsAt Done (TowerFound img scratch.old low high page) result scratch.new }
 {
-    if !claim(scratch, page, TOWER) {
+    if !claim(scratch, page, Kind::Tower) {
         return Walked::Refused;
     }
     let height = head16(scratch, page, 10);

@@ -10,7 +10,7 @@ ghost use Rattle.verify.specs.declared.superblock.Started.TheVariants.{Begun};
 ghost use Rattle.verify.specs.Superblock.{Fixed, SuperFound};
 
 use heads::claim::claim;
-use pages::mark::SUPERBLOCK;
+use pages::mark::Kind;
 use pages::read::{get16, get32};
 
 // Refused, or the first free-list page, 0 for none.
@@ -45,7 +45,7 @@ pub fn verify_superblock(image: &[u8], scratch: &mut [u8]) -> Started
     requires { Lent image.now scratch.old }
     ensures { FindsAt Begun (SuperFound image.now scratch.old) result scratch.new }
 {
-    if !claim(scratch, 1, SUPERBLOCK) {
+    if !claim(scratch, 1, Kind::Superblock) {
         return Started::Refused;
     }
     if !is_fixed(image, image.len() / 1024) {
