@@ -13,8 +13,8 @@ pub fn store16(bytes: &mut [u8], at: usize, v: usize)
     requires { at + 2 ≤ length bytes.old }
     ensures { bytes.new ≡ sets bytes.old at (word16 v) }
 {
-    bytes[at] = (v / 256 % 256) as u8;
-    bytes[at + 1] = (v % 256) as u8;
+    let two = ((v % 65536) as u16).to_be_bytes();
+    copy_bytes(bytes, at, &two)
 }
 
 // A number as four bytes of any slice.
@@ -22,10 +22,8 @@ pub fn store32(bytes: &mut [u8], at: usize, v: usize)
     requires { at + 4 ≤ length bytes.old }
     ensures { bytes.new ≡ sets bytes.old at (word32 v) }
 {
-    bytes[at] = (v / 16777216 % 256) as u8;
-    bytes[at + 1] = (v / 65536 % 256) as u8;
-    bytes[at + 2] = (v / 256 % 256) as u8;
-    bytes[at + 3] = (v % 256) as u8;
+    let four = ((v % 4294967296) as u32).to_be_bytes();
+    copy_bytes(bytes, at, &four)
 }
 
 // A number as the two bytes at an offset of a page.
