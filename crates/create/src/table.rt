@@ -10,7 +10,7 @@ ghost use Rattle.create.specs.Tables.{TableFor, TableReady, empty_span};
 use edit::span::put_header;
 use links::write::{put_skip_list, put_tower};
 use pages::free::taken_after;
-use pages::mark::SPAN;
+use pages::mark::Kind;
 use pages::read::get16;
 use pages::write::put_page;
 
@@ -47,7 +47,7 @@ fn put_empty(image: &mut [u8], page: usize, most: usize)
 {
     let mut stream = [0u8; 12];
     put_header(&mut stream, 0, 0, 0, most, 0);
-    put_page(image, page, SPAN, 0, &stream, 0)
+    put_page(image, page, Kind::Span, 0, &stream, 0)
 }
 
 // Writes the table whole, without entries: one span, and the head, of max height 12 and height 0.

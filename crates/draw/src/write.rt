@@ -3,7 +3,7 @@ ghost use Rattle.std.specs.Prelude.{◌*◌, ◌≤◌, length};
 ghost use Rattle.draw.specs.Writing.{FirstAt, Writable, WroteChain};
 
 use crate::list::number_at;
-use pages::mark::{CONTINUATION, SPAN};
+use pages::mark::Kind;
 use pages::write::put_page;
 
 // The number at the index; 0 at the end of the list.
@@ -21,12 +21,12 @@ pub fn write_chain(image: &mut [u8], numbers: &[u8], from: usize, count: usize, 
     ensures { WroteChain image.old numbers.now from count stream.now image.new }
 {
     let end = from + count;
-    let mut kind = SPAN;
+    let mut kind = Kind::Span;
     let mut page = first_at(numbers, from, end);
     for i in 0..count {
         let next = first_at(numbers, from + i + 1, end);
         put_page(image, page, kind, next, stream, 1016 * i);
-        kind = CONTINUATION;
+        kind = Kind::Continuation;
         page = next;
     }
 }

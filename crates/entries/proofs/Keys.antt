@@ -107,9 +107,6 @@ pub record Printing (img : List ℕ) (at : Place) (n : ℕ) (x : Place) (i : ℕ
   pub k_there : KeyAt img x i k
   pub same : all_within 0x21 0x7e k ≡ all_within 0x21 0x7e first
 
-pub printing-start : {img : List ℕ} {at : Place} {n : ℕ} → Key img at n → Printing img at n at n
-printing-start u = record { first = u.key; first_there = u.there; k = u.key; k_there = u.there; same = refl }
-
 none_within : (k : List ℕ) → length k ≡ 0 → all_within 0x21 0x7e k ≡ true
 none_within [] e = refl
 none_within (x ∷ k) e = absurd (omega arith)
@@ -122,9 +119,6 @@ module _ {img : List ℕ} {at : Place} {n : ℕ} {x : Place} {i : ℕ} (c : Prin
   printed-end e = printed true (none_within c.k (key-length c.k_there ∙ e))
 
   module _ (z : i ≡ 0 → ⊥) where
-    pub printing-enough : Enough img x 1
-    printing-enough = key-enough c.k_there z
-
     module _ (g : Got) (s : Stepped img x g) where
       headed : Headed img i c.k g
       headed = key_step img x i c.k c.k_there z g s

@@ -1,6 +1,8 @@
 -- Two keys compared part by part. What is left of a key is known by a property of lists: that it stands from a place on, or that
 -- it is the rest of a slice.
-use Rattle.std.proofs.Common.{◌≡◌, ℕ, ◌+◌, ◌-◌, ◌≤◌, List, length, take, drop, sym, refl, ap, ◌∙◌, ap₂, arith, length-drop, drop-drop}
+use Rattle.std.proofs.Common.{◌≡◌, ℕ, ◌+◌, ◌-◌, ◌≤◌, ◌<◌, List, length, take, drop, sym, refl, ap, ◌∙◌, ap₂, arith, length-drop, drop-drop}
+use Rattle.std.specs.Ordering.{nat_cmp, MatchOrdering}
+use Rattle.std.proofs.lemmas.Cmp.{ranked}
 use native.Mathlib.Decide.{dec_lt}
 use mathlib.Core.Logic.{by_cases}
 use Rattle.std.specs.declared.cmp.Ordering.{Ordering}
@@ -35,14 +37,23 @@ pub record Part (F F' : List ℕ → Type 0) (x : List ℕ) (n : ℕ) : Type 0 w
 
 module _ {A B F G : List ℕ → Type 0} (w : Walking A B F G) where
   module _ {m n : ℕ} (f : Long F m) (g : Long G n) where
-    pub walked_end : m ≡ 0 → n ≡ 0 → Ordered A B Equal
+    walked_end : m ≡ 0 → n ≡ 0 → Ordered A B Equal
     walked_end d e = w.same Equal (record { is = λ k l p q. sym (order-none k l (f.is k p ∙ d) (g.is l q ∙ e)) })
 
-    pub walked-shorter : m ≡ 0 → (n ≡ 0 → ⊥) → Ordered A B Less
+    walked-shorter : m ≡ 0 → (n ≡ 0 → ⊥) → Ordered A B Less
     walked-shorter d e = w.same Less (record { is = λ k l p q. sym (order-shorter k l (f.is k p ∙ d) (omega (arith, g.is l q, e))) })
 
-    pub walked-longer : (m ≡ 0 → ⊥) → n ≡ 0 → Ordered A B Greater
+    walked-longer : (m ≡ 0 → ⊥) → n ≡ 0 → Ordered A B Greater
     walked-longer d e = w.same Greater (record { is = λ k l p q. sym (order-longer k l (omega (arith, f.is k p, d)) (g.is l q ∙ e)) })
+
+    -- one of them is at its end: the shorter one comes first
+    pub walked-ends : (0 < m → n ≡ 0) → {r : Ordering} → r ≡ nat_cmp m n → Ordered A B r
+    walked-ends z {r} e = go r (ranked m n r e)
+      where
+        go : (o : Ordering) → MatchOrdering o (m < n) (m ≡ n) (n < m) → Ordered A B o
+        go Less h = by_cases (dec_lt 0 m) (λ p. absurd (omega (arith, z p, h))) (λ p. walked-shorter (omega (arith, p)) (omega (arith, h)))
+        go Equal h = by_cases (dec_lt 0 m) (λ p. absurd (omega (arith, z p, h, p))) (λ p. walked_end (omega (arith, p)) (omega (arith, h, p)))
+        go Greater h = walked-longer (omega (arith, h)) (z (omega (arith, h)))
 
   module _ {F' G' : List ℕ → Type 0} {x y : List ℕ} {n : ℕ} (p : Part F F' x n) (q : Part G G' y n) {o : Ordering} (is : ByWords x y o) where
     parts : (k l : List ℕ) → F k → G l → o ≡ order (take n k) (take n l)

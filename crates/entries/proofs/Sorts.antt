@@ -1,7 +1,9 @@
 -- The ways through the comparison of keys as those of their table sort.
 use Rattle.std.proofs.Common.{◌≡◌, ℕ, zero, suc, ◌<◌, ◌≤◌, cond, eqb, ltb, List, [], ◌∷◌, length, get_or, take, sym, refl, ap, ◌∙◌, arith}
 use Rattle.std.specs.declared.cmp.Ordering.{Ordering}
-use Rattle.std.specs.declared.cmp.Ordering.TheVariants.{Less, Greater}
+use Rattle.std.specs.declared.cmp.Ordering.TheVariants.{Less, Equal, Greater}
+use Rattle.std.specs.Ordering.{nat_cmp, MatchOrdering}
+use Rattle.std.proofs.lemmas.Cmp.{ranked}
 use Rattle.order.specs.declared.sort.Sort.{Sort}
 use Rattle.order.specs.declared.sort.Sort.TheVariants.{Bytes, Numbers}
 use Rattle.order.specs.Sorts.{sign_as}
@@ -44,11 +46,14 @@ module _ {img : List ℕ} {at : Place} {n : ℕ} where
 -- ---- a key and a list of bytes: the signs, and then the bytes
 
 module _ {s : Sort} {img : List ℕ} {a : Place} {m x y : ℕ} {l : List ℕ} (c : SignAt s img a m x) (t : y ≡ sign_as s l) where
-  pub compared-less : x < y → ComparedAs s img a m l Less
-  compared-less h = record { is = λ k w. sym (sign-less s k l (omega (arith, c.is k w, t))) }
+  -- where the signs differ they have the order
+  pub compared-signs : {o : Ordering} → o ≡ nat_cmp x y → (o ≡ Equal → ⊥) → ComparedAs s img a m l o
+  compared-signs {o} e d = go o (ranked x y o e) d
+    where
+      go : (o : Ordering) → MatchOrdering o (x < y) (x ≡ y) (y < x) → (o ≡ Equal → ⊥) → ComparedAs s img a m l o
+      go Less h d = record { is = λ k w. sym (sign-less s k l (omega (arith, c.is k w, t, h))) }
+      go Equal h d = absurd (d refl)
+      go Greater h d = record { is = λ k w. sym (sign-greater s k l (omega (arith, c.is k w, t, h))) }
 
-  pub compared-greater : y < x → ComparedAs s img a m l Greater
-  compared-greater h = record { is = λ k w. sym (sign-greater s k l (omega (arith, c.is k w, t))) }
-
-  pub compared-rest : y ≤ x → x ≤ y → {o : Ordering} → ComparedTo img a m l o → ComparedAs s img a m l o
-  compared-rest h g d = record { is = λ k w. d.is k w ∙ sym (sign_same s k l (omega (arith, c.is k w, t))) }
+  pub compared-rest : {p : Ordering} → p ≡ nat_cmp x y → p ≡ Equal → {o : Ordering} → ComparedTo img a m l o → ComparedAs s img a m l o
+  compared-rest {p} e q d = record { is = λ k w. let h : x ≡ y = rw q at (ranked x y p e) in d.is k w ∙ sym (sign_same s k l (omega (arith, c.is k w, t, h))) }

@@ -6,12 +6,6 @@ use crate::place::{Place, step};
 use pages::read::get32;
 use pages::write::copy_bytes;
 
-fn wide(b: u8) -> usize
-    ensures { (result ≡ b) × (result ≤ 255) }
-{
-    b as usize
-}
-
 // The four bytes here as a number, byte by byte.
 pub fn number(image: &[u8], at: Place) -> usize
     requires { Enough image.now at 4 }
@@ -21,7 +15,9 @@ pub fn number(image: &[u8], at: Place) -> usize
     let b = step(image, a.after);
     let c = step(image, b.after);
     let d = step(image, c.after);
-    (wide(a.byte) * 256 + wide(b.byte)) * 65536 + (wide(c.byte) * 256 + wide(d.byte))
+    let high = usize::from(a.byte) * 256 + usize::from(b.byte);
+    let low = usize::from(c.byte) * 256 + usize::from(d.byte);
+    high * 65536 + low
 }
 
 // Copies the n bytes from the place on to the start of `into`, page part by page part.

@@ -14,18 +14,7 @@ use std::cmp::Ordering;
 pub fn printable_bytes(x: &[u8]) -> bool
     ensures { result ≡ all_within 0x21 0x7e x.now }
 {
-    let mut i = 0;
-    while i < x.len() {
-        let b = x[i];
-        if b < 0x21 {
-            return false;
-        }
-        if 0x7e < b {
-            return false;
-        }
-        i += 1;
-    }
-    true
+    x.iter().all(|&b| 0x21 <= b && b <= 0x7e)
 }
 
 // Whether a key of n bytes lies on one page. An empty key has no place.
@@ -33,10 +22,7 @@ fn on_page(at: Place, n: usize) -> bool
     requires { Near at n }
     ensures { OnPage at n result }
 {
-    if n == 0 {
-        return false;
-    }
-    if n <= 1024 - at.offset { true } else { false }
+    n != 0 && n <= 1024 - at.offset
 }
 
 // The order of two keys, each on one page.
@@ -64,23 +50,14 @@ fn compare_across(image: &[u8], a: Place, m: usize, b: Place, n: usize) -> Order
     let mut y = b;
     let mut i = m;
     let mut j = n;
-    while i != 0 {
-        if j == 0 {
-            return Ordering::Greater;
-        }
+    while i != 0 && j != 0 {
         let u = settle(image, x, 1);
         let v = settle(image, y, 1);
         let w = together(u.offset, i, v.offset, j);
         let order = compare_here(image, u, w, v, w);
-        match order {
-            Ordering::Less => {
-                return Ordering::Less;
-            }
-            Ordering::Greater => {
-                return Ordering::Greater;
-            }
-            Ordering::Equal => {}
-        }
+        let Ordering::Equal = order else {
+            return order;
+        };
         x = Place {
             page: u.page,
             offset: u.offset + w,
@@ -92,11 +69,7 @@ fn compare_across(image: &[u8], a: Place, m: usize, b: Place, n: usize) -> Order
         i -= w;
         j -= w;
     }
-    if j == 0 {
-        Ordering::Equal
-    } else {
-        Ordering::Less
-    }
+    i.cmp(&j)
 }
 
 // The order of the key of m bytes at a and the key of n bytes at b.
@@ -104,10 +77,8 @@ pub fn compare_keys(image: &[u8], a: Place, m: usize, b: Place, n: usize) -> Ord
     requires { Key image.now a m × Key image.now b n }
     ensures { Compared image.now a m b n result }
 {
-    if on_page(a, m) {
-        if on_page(b, n) {
-            return compare_here(image, a, m, b, n);
-        }
+    if on_page(a, m) && on_page(b, n) {
+        return compare_here(image, a, m, b, n);
     }
     compare_across(image, a, m, b, n)
 }
@@ -120,10 +91,7 @@ fn compare_slice_across(image: &[u8], a: Place, m: usize, key: &[u8]) -> Orderin
     let mut x = a;
     let mut i = m;
     let mut j = 0;
-    while i != 0 {
-        if key.len() <= j {
-            return Ordering::Greater;
-        }
+    while i != 0 && j < key.len() {
         let u = settle(image, x, 1);
         let w = together(u.offset, i, 0, key.len() - j);
         let end = j + w;
@@ -138,11 +106,7 @@ fn compare_slice_across(image: &[u8], a: Place, m: usize, key: &[u8]) -> Orderin
         i -= w;
         j = end;
     }
-    if j < key.len() {
-        Ordering::Less
-    } else {
-        Ordering::Equal
-    }
+    i.cmp(&(key.len() - j))
 }
 
 // The order of the key of m bytes at a and the given key.
@@ -162,18 +126,12 @@ fn printable_across(image: &[u8], at: Place, n: usize) -> bool
     ensures { Printed image.now at n result }
 {
     let mut x = at;
-    let mut i = n;
-    while i != 0 {
+    for _ in 0..n {
         let g = step(image, x);
-        let b = g.byte;
-        if b < 0x21 {
-            return false;
-        }
-        if 0x7e < b {
+        if g.byte < 0x21 || 0x7e < g.byte {
             return false;
         }
         x = g.after;
-        i -= 1;
     }
     true
 }

@@ -39,13 +39,9 @@ pub fn compare_as(image: &[u8], a: Place, m: usize, sort: Sort, key: &[u8]) -> O
     requires { Key image.now a m }
     ensures { ComparedAs sort image.now a m key.now result }
 {
-    let x = sign_at(image, a, m, sort);
-    let y = sign_in(sort, key);
-    if x < y {
-        return Ordering::Less;
+    let order = sign_at(image, a, m, sort).cmp(&sign_in(sort, key));
+    match order {
+        Ordering::Equal => compare_slice(image, a, m, key),
+        _ => order,
     }
-    if y < x {
-        return Ordering::Greater;
-    }
-    compare_slice(image, a, m, key)
 }

@@ -247,17 +247,7 @@ lent-claimed {img} {scr} n low high lent =
           (get_or-set_other scr (16 * (n - 1)) (head_at (pages_in scr) j i) 0 0 (not_first scr (n - 1) j i lent.room.whole (omega arith) (λ _. a)) ∙ lent.others j i (omega (arith, long)) a b);
     }
 
--- ---- A full scratch: the steps of a loop, and both directions
-
--- of the first i pages, all are claimed; the loop's turn
-module _ (s : List ℕ) (i : ℕ) (all : Bool) (f : all ≡ full_to s i) (t : Bool) where
-  pub full-not : (get_or s (16 * i) 0 ≡ 0 → ⊥) → t ≡ false → t ≡ full_to s (suc i)
-  unfolding full_to
-  full-not n q = q ∙ sym (rw (ne_eqb (get_or s (16 * i) 0) 0 n))
-
-  pub full-more : get_or s (16 * i) 0 ≡ 0 → t ≡ all → t ≡ full_to s (suc i)
-  unfolding full_to
-  full-more e q = q ∙ f ∙ sym (rw (eq-eqb (get_or s (16 * i) 0) 0 e))
+-- ---- A full scratch: both directions
 
 full-below : (s : List ℕ) (p : ℕ) → full_to s p ≡ true → (i : ℕ) → i < p → get_or s (16 * i) 0 ≡ 0
 unfolding full_to
@@ -280,3 +270,11 @@ full-to s (suc p) h = rw (eq-eqb (get_or s (16 * p) 0) 0 (h p (omega arith))) (f
 pub full-of : (s : List ℕ) → ((i : ℕ) → 20 * i + 20 ≤ length s → get_or s (16 * i) 0 ≡ 0) → full s ≡ true
 unfolding full
 full-of s h = full-to s (length s / 20) (λ i l. h i (omega arith))
+
+-- one page that is not claimed is enough
+pub full-not : (s : List ℕ) (i : ℕ) → 20 * i + 20 ≤ length s → (get_or s (16 * i) 0 ≡ 0 → ⊥) → false ≡ full s
+full-not s i l n = go (full s) refl
+  where
+    go : (t : Bool) → full s ≡ t → false ≡ t
+    go false e = refl
+    go true e = absurd (n (full_at s e i l))

@@ -1,10 +1,11 @@
 // Claims of pages, in the scratch: 20 bytes for each page, its head. The first 16 bytes of all heads stand one behind the other, and
 // behind them the last four of all, so that a link's place is found by a shift. The head of a claimed page begins with 0.
 ghost use Rattle.std.specs.Prelude.{List, ◌≡◌, ℕ, ◌*◌, ◌-◌, ◌≤◌, ◌<◌, length};
+ghost use Rattle.pages.specs.Kinds.{kind_at};
 ghost use Rattle.pages.specs.Places.{Number};
 ghost use Rattle.heads.specs.Claims.{Room, HeadCopied, Headed, Lent, Claimed, InHead, full, pages_in, head_at, head16, head32};
 
-use pages::mark::bears;
+use pages::mark::{Kind, bears};
 use pages::read::{word16, word32};
 use pages::write::copy_bytes;
 
@@ -33,10 +34,8 @@ pub fn copy_heads(image: &[u8], scratch: &mut [u8])
     ensures { Headed image.now scratch.new }
 {
     let pages = scratch.len() / 20;
-    let mut index = 0;
-    while index < pages {
+    for index in 0..pages {
         copy_head(image, scratch, index);
-        index += 1;
     }
 }
 
@@ -68,35 +67,24 @@ pub fn head32(scratch: &[u8], page: usize, offset: usize) -> usize
 }
 
 // Claims the page as the kind: it must be one of the pages, not claimed yet, and bear the mark; else nothing changes.
-pub fn claim(scratch: &mut [u8], page: usize, kind: usize) -> bool
-    requires { kind < 7 }
-    ensures { (img : List ℕ) → Lent img scratch.old → Claimed img scratch.old page kind result scratch.new }
+pub fn claim(scratch: &mut [u8], page: usize, kind: Kind) -> bool
+    ensures { (img : List ℕ) → Lent img scratch.old → Claimed img scratch.old page (kind_at kind) result scratch.new }
 {
-    if page == 0 {
+    if page == 0 || scratch.len() / 20 < page || !bears(scratch, 16 * (page - 1), kind) {
         return false;
     }
-    if scratch.len() / 20 < page {
-        return false;
-    }
-    if bears(scratch, 16 * (page - 1), kind) {
-        scratch[16 * (page - 1)] = 0;
-        return true;
-    }
-    false
+    scratch[16 * (page - 1)] = 0;
+    true
 }
 
 // Whether every page is claimed.
 pub fn all_claimed(scratch: &[u8]) -> bool
     ensures { result ≡ full scratch.now }
 {
-    let pages = scratch.len() / 20;
-    let mut all = true;
-    let mut i = 0;
-    while i < pages {
+    for i in 0..scratch.len() / 20 {
         if scratch[16 * i] != 0 {
-            all = false;
+            return false;
         }
-        i += 1;
     }
-    all
+    true
 }

@@ -5,7 +5,7 @@ ghost use Rattle.blockfile.specs.Encode.{whole_tower, whole_skip_list};
 ghost use Rattle.pages.specs.Places.{Inside};
 ghost use Rattle.links.specs.Links.{link_writes, Linkable, levels_below, tower_as, skip_list_as};
 
-use pages::mark::{SKIP_LIST, TOWER};
+use pages::mark::Kind;
 use pages::write::{put_mark, put_zeros, put16, put32};
 
 // At each level below `height`, the entry of the tower on the page in `before` becomes the number in `values`.
@@ -40,7 +40,7 @@ pub fn put_tower(
     requires { Inside image.old page 0 1024 × (height ≤ 252) }
     ensures { image.new ≡ apply (whole_tower (tower_as page max height span (levels_below nexts.now height))) image.old }
 {
-    put_mark(image, page, TOWER);
+    put_mark(image, page, Kind::Tower);
     put16(image, page, 8, max);
     put16(image, page, 10, height);
     put32(image, page, 12, span);
@@ -72,7 +72,7 @@ pub fn put_skip_list(
     requires { Inside image.old page 0 1024 }
     ensures { image.new ≡ apply (whole_skip_list (skip_list_as page first head size spans levels span_size)) image.old }
 {
-    put_mark(image, page, SKIP_LIST);
+    put_mark(image, page, Kind::SkipList);
     put32(image, page, 8, first);
     put32(image, page, 12, head);
     put_counts(image, page, size, spans, levels);

@@ -10,6 +10,8 @@ use mathlib.Core.List.{List, ◌∷◌}
 use lib.ListN.{length, drop, get_or, length-drop}
 use lib.Seq.{drop-cons, drop-drop}
 use lib.Bits.{bit_or, bit_xor, and_le_l, and_le_r, or_add_and, xor_add_and}
+use Rattle.std.specs.Ordering.{nat_cmp, MatchOrdering}
+use Rattle.std.proofs.lemmas.Cmp.{ranked}
 use Rattle.blockfile.specs.Bytes.{be64, Every}
 use Rattle.pages.specs.Begins.{lead}
 use Rattle.pages.proofs.Words.{Byte, bytes-all, bytes_drop, be64-lead}
@@ -55,6 +57,10 @@ least-min {m} {n} e = by_cases (dec_lt m n)
 alike-none : {x y : List ℕ} {n : ℕ} → Least (length x) (length y) n → Alike x y n 0
 alike-none h = record { least = h; few = omega arith; rest = refl }
 
+-- what `cmp` tells of two numbers
+pub equal-numbers : {a b : ℕ} {o : Ordering} → o ≡ nat_cmp a b → o ≡ Equal → a ≡ b
+equal-numbers {a} {b} {o} e q = rw q at (ranked a b o e)
+
 module _ {x y : List ℕ} {n i : ℕ} (a : Alike x y n i) where
   module _ (h : i < n) where
     here : drop i x ≡ get_or x i 0 ∷ drop (i + 1) x
@@ -63,11 +69,19 @@ module _ {x y : List ℕ} {n i : ℕ} (a : Alike x y n i) where
     there : drop i y ≡ get_or y i 0 ∷ drop (i + 1) y
     there = rw add-one (drop-cons y i 0 (omega (arith, a.least.second)))
 
-    pub alike-less : get_or x i 0 < get_or y i 0 → Less ≡ order x y
+    alike-less : get_or x i 0 < get_or y i 0 → Less ≡ order x y
     alike-less l = sym (sym a.rest ∙ order-less _ _ _ _ _ _ here there l)
 
-    pub alike-greater : get_or y i 0 < get_or x i 0 → Greater ≡ order x y
+    alike-greater : get_or y i 0 < get_or x i 0 → Greater ≡ order x y
     alike-greater l = sym (sym a.rest ∙ order-greater _ _ _ _ _ _ here there l)
+
+    pub alike-apart : {o : Ordering} → o ≡ nat_cmp (get_or x i 0) (get_or y i 0) → (o ≡ Equal → ⊥) → o ≡ order x y
+    alike-apart {o} e d = go o (ranked (get_or x i 0) (get_or y i 0) o e) d
+      where
+        go : (o : Ordering) → MatchOrdering o (get_or x i 0 < get_or y i 0) (get_or x i 0 ≡ get_or y i 0) (get_or y i 0 < get_or x i 0) → (o ≡ Equal → ⊥) → o ≡ order x y
+        go Less l d = alike-less l
+        go Equal l d = absurd (d refl)
+        go Greater l d = alike-greater l
 
     pub alike-more : get_or x i 0 ≡ get_or y i 0 → Alike x y n (i + 1)
     alike-more e = record { least = a.least; few = omega arith; rest = sym (order-on _ _ _ _ _ _ here there e) ∙ a.rest }
@@ -77,14 +91,22 @@ module _ {x y : List ℕ} {n i : ℕ} (a : Alike x y n i) where
     ends : i ≡ n
     ends = omega (arith, a.few)
 
-    pub alike-shorter : length x < length y → Less ≡ order x y
+    alike-shorter : length x < length y → Less ≡ order x y
     alike-shorter l = sym (sym a.rest ∙ order-shorter (drop i x) (drop i y) (rw length-drop (omega (arith, ends, a.least.whole (omega arith)))) (rw length-drop (omega (arith, ends, a.least.first))))
 
-    pub alike-longer : length y < length x → Greater ≡ order x y
+    alike-longer : length y < length x → Greater ≡ order x y
     alike-longer l = sym (sym a.rest ∙ order-longer (drop i x) (drop i y) (rw length-drop (omega (arith, ends, a.least.second))) (rw length-drop (omega (arith, ends, a.least.other (omega arith)))))
 
-    pub alike_same : length y ≤ length x → length x ≤ length y → Equal ≡ order x y
+    alike_same : length y ≤ length x → length x ≤ length y → Equal ≡ order x y
     alike_same l m = sym (sym a.rest ∙ order-none (drop i x) (drop i y) (rw length-drop (omega (arith, ends, a.least.whole m))) (rw length-drop (omega (arith, ends, a.least.other l))))
+
+    pub alike-ends : {o : Ordering} → o ≡ nat_cmp (length x) (length y) → o ≡ order x y
+    alike-ends {o} e = go o (ranked (length x) (length y) o e)
+      where
+        go : (o : Ordering) → MatchOrdering o (length x < length y) (length x ≡ length y) (length y < length x) → o ≡ order x y
+        go Less l = alike-shorter l
+        go Equal l = alike_same (omega arith) (omega arith)
+        go Greater l = alike-longer l
 
 pub alike-start : {x y : List ℕ} {n : ℕ} → Least (length x) (length y) n → (i : ℕ) → i ≤ n → SameFrom x y 0 i → Alike x y n i
 alike-start l zero h s = alike-none l
@@ -109,11 +131,19 @@ module _ {x y : List ℕ} (left : (i : ℕ) → get_or x i 0 < 256) (right : (i 
     bytes-y : Every Byte (drop i y)
     bytes-y = bytes_drop i y (bytes-all y right)
 
-    pub word-less : a < b → Less ≡ order x y
+    word-less : a < b → Less ≡ order x y
     word-less l = sym (sym v.rest ∙ lead-order 8 (drop i x) (drop i y) bytes-y (omega (arith, lead-x, lead_y)))
 
-    pub word-greater : b < a → Greater ≡ order x y
+    word-greater : b < a → Greater ≡ order x y
     word-greater l = sym (sym v.rest ∙ lead-above 8 (drop i x) (drop i y) bytes-x (omega (arith, lead-x, lead_y)))
+
+    pub word-apart : {o : Ordering} → o ≡ nat_cmp a b → (o ≡ Equal → ⊥) → o ≡ order x y
+    word-apart {o} e d = go o (ranked a b o e) d
+      where
+        go : (o : Ordering) → MatchOrdering o (a < b) (a ≡ b) (b < a) → (o ≡ Equal → ⊥) → o ≡ order x y
+        go Less l d = word-less l
+        go Equal l d = absurd (d refl)
+        go Greater l d = word-greater l
 
     pub word_more : i + 8 ≤ n → a ≡ b → Alike x y n (i + 8)
     word_more h e =

@@ -11,12 +11,10 @@ fn same_block(x: &[u8], y: &[u8], from: usize) -> bool
     ensures { result ≡ true → SameFrom x.now y.now from (from + 64) }
 {
     let mut differing = 0;
-    let mut i = 0;
-    while i < 64 {
+    for i in 0..64 {
         differing |= x[from + i] ^ y[from + i];
-        i += 1;
     }
-    if differing == 0 { true } else { false }
+    differing == 0
 }
 
 // A number of bytes that two strings begin with alike, n at most, and n where their first n bytes are the same and at least two
@@ -28,6 +26,7 @@ fn same_blocks(x: &[u8], y: &[u8], n: usize) -> usize
     if n < 128 {
         return 0;
     }
+    // By hand: a step of 64, and the block at which it ends is an answer.
     let mut i = 0;
     while i < n - 64 {
         if !same_block(x, y, i) {
@@ -43,25 +42,13 @@ fn compare_rest(x: &[u8], y: &[u8], n: usize, from: usize) -> Ordering
     requires { Alike x.now y.now n from }
     ensures { result ≡ order x.now y.now }
 {
-    let mut i = from;
-    while i < n {
-        let a = x[i];
-        let b = y[i];
-        if a < b {
-            return Ordering::Less;
-        }
-        if b < a {
-            return Ordering::Greater;
-        }
-        i += 1;
+    for i in from..n {
+        let order = x[i].cmp(&y[i]);
+        let Ordering::Equal = order else {
+            return order;
+        };
     }
-    if x.len() < y.len() {
-        return Ordering::Less;
-    }
-    if y.len() < x.len() {
-        return Ordering::Greater;
-    }
-    Ordering::Equal
+    x.len().cmp(&y.len())
 }
 
 // The same by whole words, and the bytes left over one by one.
@@ -69,16 +56,13 @@ fn compare_words(x: &[u8], y: &[u8], n: usize, from: usize) -> Ordering
     requires { Alike x.now y.now n from }
     ensures { result ≡ order x.now y.now }
 {
+    // By hand: a step of eight, and the rest begins where it ends.
     let mut i = from;
     while 8 <= n - i {
-        let a = word64(x, i);
-        let b = word64(y, i);
-        if a < b {
-            return Ordering::Less;
-        }
-        if b < a {
-            return Ordering::Greater;
-        }
+        let order = word64(x, i).cmp(&word64(y, i));
+        let Ordering::Equal = order else {
+            return order;
+        };
         i += 8;
     }
     compare_rest(x, y, n, i)

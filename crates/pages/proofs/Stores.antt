@@ -1,55 +1,41 @@
 -- Bytes stored one after another on a page.
-use Prim.Native.Nat.{ℕ, suc, ◌+◌, ◌*◌, ◌-◌, ◌<◌, ◌≤◌}
+use Prim.Native.Nat.{ℕ, ◌+◌, ◌-◌, ◌/◌, ◌%◌, ◌≤◌}
 use native.Mathlib.Omega.{arith}
-use native.Mathlib.Numerals.{add-one}
 use native.Mathlib.Decide.{dec_lt}
 use mathlib.Core.Logic.{by_cases}
-use mathlib.Core.Path.{◌≡◌, refl, ap, sym, ◌∙◌}
+use mathlib.Core.Path.{◌≡◌, refl, ap₂, sym, ◌∙◌}
 use mathlib.Core.List.{List, [], ◌∷◌, ◌++◌, append_assoc}
-use lib.ListN.{length, get_or, take, drop, set, replicate, length-append, length-set, length-take, length-drop}
+use lib.ListN.{length, take, drop, replicate, length-append, length-take, length-drop}
 use lib.Seq.{sets, take_all}
-use Rattle.blockfile.specs.Bytes.{write, word32, padded}
+use Rattle.std.specs.Int.{w16, w32, to_be_bytes}
+use Rattle.std.proofs.lemmas.List.Edits.{paste_all, sets-eq}
+use Rattle.std.proofs.lemmas.Slice.{put_mid-paste}
+use borrow.Rule.Slice.PartMut.{put_mid}
+use Rattle.blockfile.specs.Bytes.{write, word16, word32, padded}
 use Rattle.pages.specs.Places.{Chunk}
-use Rattle.laws.proofs.Lists.{sets-turn}
 use Rattle.laws.proofs.Numbers.{length-word32}
-use Rattle.laws.proofs.Pages.{write-from, write-append}
+use Rattle.laws.proofs.Pages.{write-append}
 
--- a loop that stores the w bytes bs at offset o of page n, which is byte a, has stored i of them; byte a of any list is as offset a of page 1
-pub record Stored (img₀ : List ℕ) (n o : ℕ) (bs : List ℕ) (w a : ℕ) (img : List ℕ) (i : ℕ) : Type 0 where
-  pub start : a ≡ 1024 * (n - 1) + o
-  pub whole : length bs ≡ w
-  pub most : i ≤ w
-  pub is : img ≡ sets img₀ a (take i bs)
-  pub long : length img ≡ length img₀
+-- bytes ys written over a part, which are zs
+pub put_mid-sets : (a k : ℕ) (xs : List ℕ) {ys zs : List ℕ} → ys ≡ zs → length zs ≡ k → a + length zs ≤ length xs → put_mid a k xs ys ≡ sets xs a zs
+put_mid-sets a k xs {ys} {zs} e n h = put_mid-paste a k xs ys zs (length zs) e n refl ∙ paste_all xs a zs (length zs) refl ∙ sym (append_assoc (take a xs) zs (drop (a + length zs) xs)) ∙ sym (sets-eq zs xs a h)
 
-pub stored-none : (img : List ℕ) (n o : ℕ) (bs : List ℕ) (w a : ℕ) → a ≡ 1024 * (n - 1) + o → length bs ≡ w → Stored img n o bs w a img 0
-stored-none img n o bs w a e l = record { start = e; whole = l; most = omega arith; is = refl; long = refl }
+-- a number as two and as four bytes
+pub be-bytes16 : (v : ℕ) → to_be_bytes w16 (v % 65536) ≡ word16 v
+unfolding word16
+be-bytes16 v =
+    let a : v % 65536 / 256 % 256 ≡ v / 256 % 256 = omega arith in
+    let b : v % 65536 % 256 ≡ v % 256 = omega arith in
+    ap₂ (λ (x y : ℕ). x ∷ y ∷ []) a b
 
-module _ {img₀ : List ℕ} {n o : ℕ} {bs : List ℕ} {w a : ℕ} {img : List ℕ} {i : ℕ} (s : Stored img₀ n o bs w a img i) where
-  pub stored_more : (v : ℕ) → v ≡ get_or bs i 0 → i < w → Stored img₀ n o bs w a (set img (a + i) v) (i + 1)
-  stored_more v e l = record {
-    start = s.start;
-    whole = s.whole;
-    most = omega arith;
-    is = rw (s.is, e) (sets-turn img₀ bs a i 0 (omega (arith, s.whole)));
-    long = simp length-set s.long;
-  }
-
-  pub stored_here : w ≤ i → img ≡ sets img₀ a bs
-  stored_here l = s.is ∙ ap (sets img₀ a) (take_all i bs (omega (arith, s.whole)))
-
-  pub stored-all : w ≤ i → 1 ≤ n → img ≡ write img₀ n o bs
-  stored-all l h = rw (write-from img₀ n o bs h) (stored_here l ∙ ap (λ (k : ℕ). sets img₀ k bs) s.start)
-
--- two and four bytes stored one after another
-pub sets-two : (l : List ℕ) (a x y : ℕ) → set (set l a x) (a + 1) y ≡ sets l a (x ∷ y ∷ [])
-sets-two l a x y = rw (add-one a)
-
-pub sets-four : (l : List ℕ) (a x y z w : ℕ) → set (set (set (set l a x) (a + 1) y) (a + 2) z) (a + 3) w ≡ sets l a (x ∷ y ∷ z ∷ w ∷ [])
-sets-four l a x y z w =
-    let two : a + 2 ≡ suc (suc a) = omega arith in
-    let three : a + 3 ≡ suc (suc (suc a)) = omega arith in
-    rw (add-one a, two, three)
+pub be-bytes32 : (v : ℕ) → to_be_bytes w32 (v % 4294967296) ≡ word32 v
+unfolding word32
+be-bytes32 v =
+    let a : v % 4294967296 / 16777216 % 256 ≡ v / 16777216 % 256 = omega arith in
+    let b : v % 4294967296 / 65536 % 256 ≡ v / 65536 % 256 = omega arith in
+    let c : v % 4294967296 / 256 % 256 ≡ v / 256 % 256 = omega arith in
+    let d : v % 4294967296 % 256 ≡ v % 256 = omega arith in
+    rw (a, b, c, d)
 
 -- ---- a page of a stream
 

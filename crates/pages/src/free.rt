@@ -6,7 +6,7 @@ ghost use Rattle.laws.proofs.FreeRead.{list_writes, block_writes};
 ghost use Rattle.pages.specs.Places.{Inside};
 ghost use Rattle.pages.specs.Taking.{Takeable, Took, Giveable, Gave, Ahead, TakenAfter};
 
-use crate::mark;
+use crate::mark::Kind;
 use crate::read::get32;
 use crate::write::{put_mark, put32};
 
@@ -51,7 +51,7 @@ fn list_page(image: &mut [u8], page: usize, first: usize, count: usize)
     requires { Inside image.old page 0 8 × Inside image.old first 0 1024 × (count < 252) }
     ensures { image.new ≡ apply (list_writes page first count) image.old }
 {
-    put_mark(image, page, mark::FREE);
+    put_mark(image, page, Kind::Free);
     put32(image, first, 16 + 4 * count, page);
     put32(image, first, 12, count + 1)
 }
@@ -61,7 +61,7 @@ fn block_page(image: &mut [u8], page: usize, first: usize)
     requires { Inside image.old page 0 1024 }
     ensures { image.new ≡ apply (block_writes page first) image.old }
 {
-    put_mark(image, page, mark::BLOCK);
+    put_mark(image, page, Kind::Block);
     put32(image, page, 8, first);
     put32(image, page, 12, 0);
     put32(image, 1, 16, page)

@@ -1,49 +1,47 @@
 // The kinds of page, and the marks that they begin with.
-ghost use Rattle.std.specs.Prelude.{[], ◌≡◌, ◌+◌, ◌≤◌, ◌<◌, length, drop, get_or};
+ghost use Rattle.std.specs.Prelude.{[], ◌≡◌, ◌+◌, ◌≤◌, length, drop, get_or};
 ghost use Rattle.blockfile.specs.Marks.{marks};
 ghost use Rattle.pages.specs.Begins.{begins};
+ghost use Rattle.pages.specs.Kinds.{kind_at, IsMark};
 
 use crate::read::word64;
 
-// The kinds, by the place of their marks in the table.
-pub const SUPERBLOCK: usize = 0;
+// The kinds of page, in the order of their marks in the text's table.
+#[derive(Clone, Copy)]
+pub enum Kind {
+    Superblock,
+    SkipList,
+    Tower,
+    Span,
+    Continuation,
+    Block,
+    Free,
+}
 
-pub const SKIP_LIST: usize = 1;
-
-pub const TOWER: usize = 2;
-
-pub const SPAN: usize = 3;
-
-pub const CONTINUATION: usize = 4;
-
-pub const BLOCK: usize = 5;
-
-pub const FREE: usize = 6;
-
-// The table of the marks by kind, each as the number that its bytes are with zeros behind them up to eight, and their lengths: the
-// superblock's, "SkipList", "BSLevels", "Span", "CONT", "#frList#" and "~!FREE!~". As numbers, and not as bytes, a mark of a known
-// kind is a constant in the compiled code.
-pub const MARKS: [usize; 7] = [
-    0x3141de4932500000,
-    0x536b69704c697374,
-    0x42534c6576656c73,
-    0x5370616e00000000,
-    0x434f4e5400000000,
-    0x2366724c69737423,
-    0x7e2146524545217e,
-];
-
-pub const MARK_LENGTHS: [usize; 7] = [6, 8, 8, 4, 4, 8, 8];
-
-// Whether the bytes from `at` on begin with the mark of the kind: eight bytes as a number, and the mark's number in the table, both
-// cut off behind the mark, are the same.
-pub fn bears(bytes: &[u8], at: usize, kind: usize) -> bool
-    requires { (kind < 7) × (at + 8 ≤ length bytes.now) }
-    ensures { result ≡ begins (get_or marks kind []) (drop at bytes.now) }
+// The mark of a kind, as the number that its bytes are with zeros behind them up to eight, and its length: the superblock's,
+// "SkipList", "BSLevels", "Span", "CONT", "#frList#" and "~!FREE!~". As a number, and not as bytes, the mark of a known kind is a
+// constant in the compiled code.
+pub fn mark(kind: Kind) -> (usize, usize)
+    ensures { IsMark kind result.0 result.1 }
 {
-    let behind = 64 - 8 * MARK_LENGTHS[kind];
-    if word64(bytes, at) >> behind == MARKS[kind] >> behind {
-        return true;
+    match kind {
+        Kind::Superblock => (0x3141de4932500000, 6),
+        Kind::SkipList => (0x536b69704c697374, 8),
+        Kind::Tower => (0x42534c6576656c73, 8),
+        Kind::Span => (0x5370616e00000000, 4),
+        Kind::Continuation => (0x434f4e5400000000, 4),
+        Kind::Block => (0x2366724c69737423, 8),
+        Kind::Free => (0x7e2146524545217e, 8),
     }
-    false
+}
+
+// Whether the bytes from `at` on begin with the mark of the kind: eight bytes as a number, and the mark's number, both cut off
+// behind the mark, are the same.
+pub fn bears(bytes: &[u8], at: usize, kind: Kind) -> bool
+    requires { at + 8 ≤ length bytes.now }
+    ensures { result ≡ begins (get_or marks (kind_at kind) []) (drop at bytes.now) }
+{
+    let (number, length) = mark(kind);
+    let behind = 64 - 8 * length;
+    word64(bytes, at) >> behind == number >> behind
 }

@@ -3,21 +3,16 @@ ghost use Rattle.std.specs.Prelude.{◌≡◌, ◌+◌, ◌≤◌, ◌<◌, leng
 ghost use Rattle.blockfile.specs.Bytes.{pg, be16, be32, be64};
 ghost use Rattle.pages.specs.Places.{Inside, Number};
 
-// A byte of any slice.
-pub fn byte(bytes: &[u8], at: usize) -> usize
-    requires { at < length bytes.now }
-    ensures { Number (get_or bytes.now at 0) 256 result }
-{
-    bytes[at] as usize
-}
+// The widths have functions of their own, and not one with a type for the width: its trait would need the number's definition, its
+// bound, its width and a law for pages, and every call would name the type.
 
 // Two bytes of any slice.
 pub fn word16(bytes: &[u8], at: usize) -> usize
     requires { at + 2 ≤ length bytes.now }
     ensures { Number (be16 bytes.now at) 65536 result }
 {
-    let a = byte(bytes, at);
-    let b = byte(bytes, at + 1);
+    let a = usize::from(bytes[at]);
+    let b = usize::from(bytes[at + 1]);
     a * 256 + b
 }
 

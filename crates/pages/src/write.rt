@@ -3,17 +3,18 @@ ghost use Rattle.std.specs.Prelude.{◌≡◌, [], ◌++◌, ◌+◌, ◌≤◌,
 ghost use Rattle.std.proofs.lemmas.List.Edits.{sets};
 ghost use Rattle.blockfile.specs.Bytes.{word16, word32, write, padded};
 ghost use Rattle.blockfile.specs.Marks.{marks};
+ghost use Rattle.pages.specs.Kinds.{kind_at};
 ghost use Rattle.pages.specs.Places.{Inside, Chunk};
 
-use crate::mark::{MARK_LENGTHS, MARKS};
+use crate::mark::{Kind, mark};
 
 // A number as two bytes of any slice.
 pub fn store16(bytes: &mut [u8], at: usize, v: usize)
     requires { at + 2 ≤ length bytes.old }
     ensures { bytes.new ≡ sets bytes.old at (word16 v) }
 {
-    bytes[at] = (v / 256 % 256) as u8;
-    bytes[at + 1] = (v % 256) as u8;
+    let two = ((v % 65536) as u16).to_be_bytes();
+    copy_bytes(bytes, at, &two)
 }
 
 // A number as four bytes of any slice.
@@ -21,10 +22,8 @@ pub fn store32(bytes: &mut [u8], at: usize, v: usize)
     requires { at + 4 ≤ length bytes.old }
     ensures { bytes.new ≡ sets bytes.old at (word32 v) }
 {
-    bytes[at] = (v / 16777216 % 256) as u8;
-    bytes[at + 1] = (v / 65536 % 256) as u8;
-    bytes[at + 2] = (v / 256 % 256) as u8;
-    bytes[at + 3] = (v % 256) as u8;
+    let four = ((v % 4294967296) as u32).to_be_bytes();
+    copy_bytes(bytes, at, &four)
 }
 
 // A number as the two bytes at an offset of a page.
@@ -48,11 +47,8 @@ pub fn copy_bytes(into: &mut [u8], from: usize, src: &[u8])
     requires { from + length src.now ≤ length into.old }
     ensures { into.new ≡ sets into.old from src.now }
 {
-    let mut i = 0;
-    while i < src.len() {
-        into[from + i] = src[i];
-        i += 1;
-    }
+    let end = from + src.len();
+    into[from..end].copy_from_slice(src)
 }
 
 // All of src.
@@ -69,26 +65,17 @@ pub fn put_zeros(image: &mut [u8], page: usize, offset: usize, n: usize)
     ensures { image.new ≡ write image.old page offset (replicate n 0) }
 {
     let at = 1024 * (page - 1) + offset;
-    let mut i = 0;
-    while i < n {
-        image[at + i] = 0;
-        i += 1;
-    }
+    let end = at + n;
+    image[at..end].fill(0)
 }
 
 // The mark of a kind, at the start of the page.
-pub fn put_mark(image: &mut [u8], page: usize, kind: usize)
-    requires { (kind < 7) × Inside image.old page 0 8 }
-    ensures { image.new ≡ write image.old page 0 (get_or marks kind []) }
+pub fn put_mark(image: &mut [u8], page: usize, kind: Kind)
+    requires { Inside image.old page 0 8 }
+    ensures { image.new ≡ write image.old page 0 (get_or marks (kind_at kind) []) }
 {
-    let at = 1024 * (page - 1);
-    let mark = MARKS[kind];
-    let n = MARK_LENGTHS[kind];
-    let mut i = 0;
-    while i < n {
-        image[at + i] = ((mark >> (56 - 8 * i)) % 256) as u8;
-        i += 1;
-    }
+    let (number, length) = mark(kind);
+    put_bytes(image, page, 0, &number.to_be_bytes()[..length])
 }
 
 // How many bytes of a stream of `len` bytes stand on its page from byte `from` on.
@@ -96,13 +83,13 @@ fn chunk(len: usize, from: usize) -> usize
     requires { from ≤ len }
     ensures { Chunk len from result }
 {
-    if len - from < 1016 { len - from } else { 1016 }
+    (len - from).min(1016)
 }
 
 // A page of a stream, written whole: its mark, its link, the bytes of src from byte `from` on, zeros where src ends.
-pub fn put_page(image: &mut [u8], page: usize, kind: usize, link: usize, src: &[u8], from: usize)
-    requires { (kind < 7) × (length (get_or marks kind []) ≡ 4) × Inside image.old page 0 1024 × (from ≤ length src.now) }
-    ensures { image.new ≡ write image.old page 0 (get_or marks kind [] ++ (word32 link ++ padded 1016 (take 1016 (drop from src.now)))) }
+pub fn put_page(image: &mut [u8], page: usize, kind: Kind, link: usize, src: &[u8], from: usize)
+    requires { (length (get_or marks (kind_at kind) []) ≡ 4) × Inside image.old page 0 1024 × (from ≤ length src.now) }
+    ensures { image.new ≡ write image.old page 0 (get_or marks (kind_at kind) [] ++ (word32 link ++ padded 1016 (take 1016 (drop from src.now)))) }
 {
     put_mark(image, page, kind);
     put32(image, page, 4, link);
@@ -117,9 +104,5 @@ pub fn clear(bytes: &mut [u8], n: usize)
     requires { n ≤ length bytes.old }
     ensures { bytes.new ≡ replicate n 0 ++ drop n bytes.old }
 {
-    let mut i = 0;
-    while i < n {
-        bytes[i] = 0;
-        i += 1;
-    }
+    bytes[..n].fill(0)
 }

@@ -5,7 +5,7 @@ ghost use Rattle.spans.specs.Charts.{Noted};
 ghost use Rattle.spans.specs.Parts.{ContsClaimed, PagesClaimed};
 
 use heads::claim::{claim, head32};
-use pages::mark;
+use pages::mark::Kind;
 
 // Notes the continuation page of this index in the chart, which has every sixteenth.
 fn note(chart: &mut [u16; 256], index: usize, page: usize)
@@ -26,7 +26,7 @@ fn claim_conts(scratch: &mut [u8], chart: &mut [u16; 256], start: usize) -> Opti
     let mut page = start;
     let mut count = 0;
     while page != 0 {
-        if !claim(scratch, page, mark::CONTINUATION) {
+        if !claim(scratch, page, Kind::Continuation) {
             return None;
         }
         note(chart, count, page);
@@ -41,7 +41,7 @@ pub fn claim_span(scratch: &mut [u8], chart: &mut [u16; 256], page: usize) -> Op
     requires { Kept scratch.old }
     ensures { (img : List ℕ) → Lent img scratch.old → PagesClaimed img scratch.old page result scratch.new chart.new }
 {
-    if claim(scratch, page, mark::SPAN) {
+    if claim(scratch, page, Kind::Span) {
         let first = head32(scratch, page, 4);
         return claim_conts(scratch, chart, first);
     }

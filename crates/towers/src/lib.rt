@@ -10,7 +10,7 @@ ghost use Rattle.towers.specs.Towers.{Spanned, HasSpans, TowersFound};
 ghost use Rattle.towers.specs.Climb.{Repeats, AllAre, Followed, Linked, HasWay, Reach, Tall, TowerFound, Placed, Climb, entry_at};
 
 use heads::claim::{claim, head16, head32};
-use pages::mark::TOWER;
+use pages::mark::Kind;
 use pages::read::get32;
 use pages::write::put_bytes;
 
@@ -70,7 +70,7 @@ fn claim_tower(scratch: &mut [u8], page: usize, low: usize, high: usize) -> Opti
     requires { Kept scratch.old }
     ensures { (img : List ℕ) → Lent img scratch.old → FindsAt Some (TowerFound img scratch.old low high page) result scratch.new }
 {
-    if !claim(scratch, page, TOWER) {
+    if !claim(scratch, page, Kind::Tower) {
         return None;
     }
     let height = head16(scratch, page, 10);

@@ -6,7 +6,7 @@ ghost use Rattle.walks.specs.Found.{FindsAt};
 ghost use Rattle.verify.specs.Free.{ListedFound, BlockFound, FreeFound};
 
 use heads::claim::{claim, head32};
-use pages::mark::{BLOCK, FREE};
+use pages::mark::Kind;
 use pages::read::get32;
 
 // Claims the pages that the block on `page` lists, `count` of them.
@@ -17,7 +17,7 @@ fn claim_listed(image: &[u8], scratch: &mut [u8], page: usize, count: usize) -> 
     let mut i = 0;
     while i < count {
         let listed = get32(image, page, 16 + 4 * i);
-        if !claim(scratch, listed, FREE) {
+        if !claim(scratch, listed, Kind::Free) {
             return false;
         }
         i += 1;
@@ -30,7 +30,7 @@ fn claim_block(image: &[u8], scratch: &mut [u8], page: usize) -> Option<usize>
     requires { Lent image.now scratch.old }
     ensures { FindsAt Some (BlockFound image.now scratch.old page) result scratch.new }
 {
-    if !claim(scratch, page, BLOCK) {
+    if !claim(scratch, page, Kind::Block) {
         return None;
     }
     let count = head32(scratch, page, 12);

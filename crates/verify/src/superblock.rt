@@ -9,7 +9,7 @@ ghost use Rattle.walks.specs.Found.{Decides, FindsAt};
 ghost use Rattle.verify.specs.Superblock.{Fixed, SuperFound};
 
 use heads::claim::claim;
-use pages::mark::SUPERBLOCK;
+use pages::mark::Kind;
 use pages::read::{get16, get32};
 
 // Whether the version is 1.2, the file length that of the pages, and the page size 1024.
@@ -37,7 +37,7 @@ pub fn verify_superblock(image: &[u8], scratch: &mut [u8]) -> Option<usize>
     requires { Lent image.now scratch.old }
     ensures { FindsAt Some (SuperFound image.now scratch.old) result scratch.new }
 {
-    if !claim(scratch, 1, SUPERBLOCK) {
+    if !claim(scratch, 1, Kind::Superblock) {
         return None;
     }
     if !is_fixed(image, image.len() / 1024) {

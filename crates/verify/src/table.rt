@@ -7,7 +7,7 @@ ghost use Rattle.walks.specs.Found.{Decides, FindsAt};
 ghost use Rattle.verify.specs.Tables.{CountsAre, ColumnsFound, TableFound};
 
 use heads::claim::claim;
-use pages::mark::SKIP_LIST;
+use pages::mark::Kind;
 use pages::read::{get16, get32};
 use search::table::TableRef;
 use spans::span::Rules;
@@ -61,7 +61,7 @@ pub fn verify_table(image: &[u8], scratch: &mut [u8], table: TableRef) -> Option
     ensures { FindsAt Some (TableFound table.sort image.now scratch.old table.root) result scratch.new }
 {
     let root = table.root;
-    if !claim(scratch, root, SKIP_LIST) {
+    if !claim(scratch, root, Kind::SkipList) {
         return None;
     }
     let most = get16(image, root, 28);

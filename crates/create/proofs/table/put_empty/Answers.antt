@@ -10,7 +10,7 @@ use Rattle.create.proofs.table.put_empty.Goals as goal
 
 pub put_page-requires : goal.put_page-requires
 unfolding span_mark
-put_page-requires c = (omega arith, refl, c.requires.0, omega arith)
+put_page-requires c = (refl, c.requires.0, omega arith)
 
 pub returns : goal.returns
 returns c =

@@ -18,4 +18,4 @@ step-d-requires c = step-on 1 (step-on 2 (step-on 3 c.requires c.step-a.ensures)
 pub returns : goal.returns
 returns c =
     number-done c.step-a.ensures c.step-b.ensures c.step-c.ensures c.step-d.ensures
-    c.wide.ensures.0 c.wide-2.ensures.0 c.wide-3.ensures.0 c.wide-4.ensures.0 (omega arith)
+    c.from.ensures c.from-2.ensures c.from-3.ensures c.from-4.ensures (omega arith)

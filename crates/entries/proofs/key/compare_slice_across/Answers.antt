@@ -1,14 +1,12 @@
-use Rattle.std.proofs.Common.{refl, arith}
+use Rattle.std.proofs.Common.{◌≡◌, ◌<◌, ◌-◌, length, refl, arith}
 use Rattle.entries.proofs.Places.{step-enough}
 use Rattle.entries.proofs.Keys.{key-enough}
-use Rattle.entries.proofs.Parts.{walking_start, walked_end, walked-shorter, walked-longer, walked-part, walking-next, pages-long, pages-here, pages-part, pages-next, from-long, from-part, compared-to}
+use Rattle.entries.proofs.Parts.{walking_start, walked-ends, walked-part, walking-next, pages-long, pages-here, pages-part, pages-next, from-long, from-part, compared-to}
 use Rattle.entries.proofs.key.compare_slice_across.Goals as goal
+use Rattle.entries.proofs.key.compare_slice_across.Goals.{then-loop-i-test+else-j-key, else-loop-i-test}
 
 pub loop-i-init : goal.loop-i-init
 loop-i-init c = (c.requires, omega arith, walking_start _ _)
-
-pub returns-then-key-j : goal.returns-then-key-j
-returns-then-key-j c = compared-to (walked-longer c.loop-i.invariant.2 pages-long (from-long c.args.key.now c.loop-i.j) c.loop-i-test.true (omega arith))
 
 pub settle-u-requires : goal.settle-u-requires
 settle-u-requires c = (omega arith, omega arith, step-enough (key-enough c.loop-i.invariant.0.there c.loop-i-test.true))
@@ -36,12 +34,6 @@ loop-i-preserved c =
     let first = pages-part c.loop-i-test.true c.settle-u.ensures g.some g.first g.here c.bytes_at.ensures in
     (pages-next first w.0, omega (arith, w.1, g.second), walking-next w.2 first (from-part _ _ _ g.second) c.compare_bytes-order.ensures c.in-Equal.is)
 
-pub returns-then-j-key : goal.returns-then-j-key
-returns-then-j-key c = compared-to (walked-shorter c.loop-i.invariant.2 pages-long (from-long c.args.key.now c.loop-i.j) c.loop-i-test.false (omega arith))
-
-pub returns-else-j-key : goal.returns-else-j-key
-returns-else-j-key c = compared-to (walked_end c.loop-i.invariant.2 pages-long (from-long c.args.key.now c.loop-i.j) c.loop-i-test.false (omega arith))
-
 pub overflow_add-end : goal.overflow_add-end
 overflow_add-end c = omega (arith, c.together-w.ensures.second)
 
@@ -59,3 +51,11 @@ overflow_sub-i c = omega (arith, c.together-w.ensures.first)
 
 pub loop-i-smaller : goal.loop-i-smaller
 loop-i-smaller c = omega (arith, c.together-w.ensures.some, c.together-w.ensures.first)
+
+pub returns : goal.returns
+returns c =
+    let z : 0 < c.loop-i.i → length c.args.key.now - c.loop-i.j ≡ 0 = elim c.loop-i-test.branch [
+      | then-loop-i-test+else-j-key w ↦ λ h. omega (arith, w.if-j-key.false)
+      | else-loop-i-test w ↦ λ h. absurd (omega (arith, w.loop-i-test.false, h))
+    ] in
+    compared-to (walked-ends c.loop-i.invariant.2 pages-long (from-long c.args.key.now c.loop-i.j) z c.cmp.ensures)

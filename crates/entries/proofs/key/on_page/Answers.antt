@@ -1,15 +1,13 @@
 -- `entries::key::on_page` meets its contract.
-use Rattle.std.proofs.Common.{◌≡◌, ℕ, arith}
+use Rattle.std.proofs.Common.{arith, leb-true}
+use Rattle.std.proofs.lemmas.Bool.Decides.{nat_tests}
 use Rattle.entries.proofs.key.on_page.Goals as goal
 
-pub returns-then-n-eq0 : goal.returns-then-n-eq0
-returns-then-n-eq0 c = record { some = λ e. absurd (let z : ◌≡◌ {A = ℕ} 0 1 = cc in omega arith); fits = λ e. absurd (let z : ◌≡◌ {A = ℕ} 0 1 = cc in omega arith) }
+pub overflow_sub-result : goal.overflow_sub-result
+overflow_sub-result c = omega (arith, c.requires.high (omega arith))
 
-pub overflow_sub-at : goal.overflow_sub-at
-overflow_sub-at c = omega (arith, c.requires.high (omega arith))
+pub returns-then-n-ne0 : goal.returns-then-n-ne0
+returns-then-n-ne0 c = record { some = λ e. omega arith; fits = λ e. omega (arith, leb-true _ _ e, c.requires.high (omega arith)) }
 
-pub returns-then-n-at : goal.returns-then-n-at
-returns-then-n-at c = record { some = λ e. omega arith; fits = λ e. omega (arith, c.requires.high (omega arith)) }
-
-pub returns-else-n-at : goal.returns-else-n-at
-returns-else-n-at c = record { some = λ e. absurd (let z : ◌≡◌ {A = ℕ} 0 1 = cc in omega arith); fits = λ e. absurd (let z : ◌≡◌ {A = ℕ} 0 1 = cc in omega arith) }
+pub returns-else-n-ne0 : goal.returns-else-n-ne0
+returns-else-n-ne0 c = record { some = λ e. grind (arith, nat_tests); fits = λ e. grind (arith, nat_tests) }

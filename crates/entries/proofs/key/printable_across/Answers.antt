@@ -1,20 +1,19 @@
-use Rattle.entries.proofs.Keys.{printing-start, printing-enough, printed-low, printed-high, printing-next, printed-end}
+use Rattle.std.proofs.Common.{◌≡◌, ◌+◌, ◌-◌, arith}
+use Rattle.entries.proofs.Keys.{printed-low, printed-high, printing-next, printed-end}
 use Rattle.entries.proofs.key.printable_across.Goals as goal
+use Rattle.entries.proofs.key.printable_across.Goals.{then-g-lt33-via-then-g-lt33, then-g-lt33-via-else-g-lt33+then-g-gt126}
 
-pub loop-i-init : goal.loop-i-init
-loop-i-init c = printing-start c.requires
+pub returns-then-g-lt33 : goal.returns-then-g-lt33
+returns-then-g-lt33 c =
+    elim c.then-g-lt33.branch [
+      | then-g-lt33-via-then-g-lt33 w ↦ printed-low c.loop.invariant (λ e. omega (arith, e, c.loop-test.true)) _ c.step-g.ensures w.if-g-lt33.true
+      | then-g-lt33-via-else-g-lt33+then-g-gt126 w ↦ printed-high c.loop.invariant (λ e. omega (arith, e, c.loop-test.true)) _ c.step-g.ensures w.if-g-lt33.false w.if-g-gt126.true
+    ]
 
-pub step-g-requires : goal.step-g-requires
-step-g-requires c = printing-enough c.loop-i.invariant c.loop-i-test.true
-
-pub returns-then-b-lt33 : goal.returns-then-b-lt33
-returns-then-b-lt33 c = printed-low c.loop-i.invariant c.loop-i-test.true _ c.step-g.ensures c.if-b-lt33.true
-
-pub returns-then-b-gt126 : goal.returns-then-b-gt126
-returns-then-b-gt126 c = printed-high c.loop-i.invariant c.loop-i-test.true _ c.step-g.ensures c.if-b-lt33.false c.if-b-gt126.true
-
-pub loop-i-preserved : goal.loop-i-preserved
-loop-i-preserved c = printing-next c.loop-i.invariant c.loop-i-test.true _ c.step-g.ensures c.if-b-lt33.false c.if-b-gt126.false
+pub loop-preserved : goal.loop-preserved
+loop-preserved c =
+    let one : c.args.n - (c.loop.counter + 1) ≡ c.args.n - c.loop.counter - 1 = omega arith in
+    rw one (printing-next c.loop.invariant (λ e. omega (arith, e, c.loop-test.true)) _ c.step-g.ensures c.if-g-lt33.false c.if-g-gt126.false)
 
 pub returns : goal.returns
-returns c = printed-end c.loop-i.invariant c.loop-i-test.false
+returns c = printed-end c.loop.invariant (omega (arith, c.loop-test.false))

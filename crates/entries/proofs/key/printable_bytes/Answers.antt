@@ -1,17 +1,11 @@
-use Rattle.entries.proofs.Names.{scanned-none, scanned-low, scanned-high, scanned-more, scanned-all}
+-- `entries::key::printable_bytes` meets its contract.
+use Rattle.std.proofs.Common.{rules, ◌∙◌}
+use borrow.Author.Tests.{tests}
+use Rattle.std.proofs.lemmas.Iterator.{YieldsList-from_slice}
+use Rattle.std.proofs.lemmas.Iterator.Search.{all_from_yields_List}
+use Rattle.blockfile.specs.Order.{within}
+use Rattle.entries.proofs.Names.{within-all}
 use Rattle.entries.proofs.key.printable_bytes.Goals as goal
 
-pub loop-i-init : goal.loop-i-init
-loop-i-init c = scanned-none _
-
-pub returns-then-b-lt33 : goal.returns-then-b-lt33
-returns-then-b-lt33 c = scanned-low c.loop-i.invariant c.loop-i-test.true c.if-b-lt33.true
-
-pub returns-then-b-gt126 : goal.returns-then-b-gt126
-returns-then-b-gt126 c = scanned-high c.loop-i.invariant c.loop-i-test.true c.if-b-lt33.false c.if-b-gt126.true
-
-pub loop-i-preserved : goal.loop-i-preserved
-loop-i-preserved c = scanned-more c.loop-i.invariant c.loop-i-test.true c.if-b-lt33.false c.if-b-gt126.false
-
 pub returns : goal.returns
-returns c = scanned-all c.loop-i.invariant c.loop-i-test.false
+returns c = all_from_yields_List (within 0x21 0x7e) _ _ _ c.all.ensures.ran (YieldsList-from_slice c.args.x.now cc) (λ x b q k. search (rules, tests)) ∙ within-all c.args.x.now

@@ -1,13 +1,9 @@
 -- `entries::sorted::compare_as` meets its contract: the signs, and then the bytes.
-use Rattle.std.proofs.Common.{arith}
-use Rattle.entries.proofs.Sorts.{compared-less, compared-greater, compared-rest}
+use Rattle.entries.proofs.Sorts.{compared-signs, compared-rest}
 use Rattle.entries.proofs.sorted.compare_as.Goals as goal
 
-pub returns-then-x-y : goal.returns-then-x-y
-returns-then-x-y c = compared-less c.sign_at-x.ensures c.sign_in-y.ensures (omega arith)
+pub returns-in-Equal : goal.returns-in-Equal
+returns-in-Equal c = compared-rest c.sign_at.ensures c.sign_in.ensures c.cmp-order.ensures c.in-Equal.is c.compare_slice.ensures
 
-pub returns-then-y-x : goal.returns-then-y-x
-returns-then-y-x c = compared-greater c.sign_at-x.ensures c.sign_in-y.ensures (omega arith)
-
-pub returns : goal.returns
-returns c = compared-rest c.sign_at-x.ensures c.sign_in-y.ensures (omega arith) (omega arith) c.compare_slice.ensures
+pub returns-in_default : goal.returns-in_default
+returns-in_default c = compared-signs c.sign_at.ensures c.sign_in.ensures c.cmp-order.ensures c.in_default.not-Equal

@@ -1,31 +1,21 @@
+-- `pages::write::put_mark` meets its contract: the first bytes of the mark's number are the mark.
 use native.Mathlib.Omega.{arith}
-use Rattle.pages.proofs.Stores.{stored-none, stored_more, stored-all}
-use Rattle.pages.proofs.Marks.{mark-length, mark-short, mark-at}
+use mathlib.Core.Path.{◌≡◌, ap, sym, ◌∙◌}
+use lib.ListN.{take, length}
+use lib.Seq.{length-take-le}
+use Rattle.blockfile.specs.Bytes.{write}
+use Rattle.pages.proofs.Marks.{is-most, is-bytes}
 use Rattle.pages.proofs.write.put_mark.Goals as goal
 
-pub bounds-image-at : goal.bounds-image-at
-bounds-image-at c = omega (arith, mark-short _ c.requires.0)
+pub slice_bounds-put_bytes-end : goal.slice_bounds-put_bytes-end
+slice_bounds-put_bytes-end c =
+    let eight : length c.to_be_bytes.result ≡ 8 = ap length c.to_be_bytes.ensures in
+    omega (arith, eight, is-most c.mark-number.ensures)
 
-pub loop-i-init : goal.loop-i-init
-loop-i-init c = stored-none _ _ _ _ _ _ (omega arith) (mark-length _ c.requires.0)
-
-pub loop-i-preserved : goal.loop-i-preserved
-loop-i-preserved c = stored_more c.loop-i.invariant _ (mark-at _ c.requires.0 _ c.loop-i-test.true) c.loop-i-test.true
+pub slice_bounds-put_bytes-end-2 : goal.slice_bounds-put_bytes-end-2
+slice_bounds-put_bytes-end-2 c =
+    let eight : length c.to_be_bytes.result ≡ 8 = ap length c.to_be_bytes.ensures in
+    sym (length-take-le c.mark-number.result.1 c.to_be_bytes.result (omega (arith, eight, is-most c.mark-number.ensures)))
 
 pub returns : goal.returns
-returns c = stored-all c.loop-i.invariant c.loop-i-test.false (omega arith)
-
-pub overflow_mul-image : goal.overflow_mul-image
-overflow_mul-image c = omega (arith, mark-short _ c.requires.0)
-
-pub overflow_sub-image : goal.overflow_sub-image
-overflow_sub-image c = omega (arith, mark-short _ c.requires.0)
-
-pub overflow_add-image : goal.overflow_add-image
-overflow_add-image c = omega (arith, mark-short _ c.requires.0)
-
-pub overflow_add-i : goal.overflow_add-i
-overflow_add-i c = omega (arith, mark-short _ c.requires.0)
-
-pub shape_of-image : goal.shape_of-image
-shape_of-image c = c.loop-i.invariant.long
+returns c = c.put_bytes.ensures ∙ ap (write c.args.image.now c.args.page 0) (ap (take c.mark-number.result.1) c.to_be_bytes.ensures ∙ is-bytes c.mark-number.ensures)

@@ -14,9 +14,6 @@ overflow_add-i c = omega arith
 pub get32-listed-requires : goal.get32-listed-requires
 get32-listed-requires c = record { small = omega arith; low = omega arith; high = omega arith; fits = omega arith }
 
-pub claim-requires : goal.claim-requires
-claim-requires c = omega arith
-
 pub shape_of-scratch-then-not-claim : goal.shape_of-scratch-then-not-claim
 shape_of-scratch-then-not-claim c = omega arith
 
