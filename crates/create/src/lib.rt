@@ -7,9 +7,8 @@ use draw::list::set_number;
 use edit::apply::carry_out;
 use edit::plan::make_plan;
 use edit::shape::count_conts;
-use order::sort::Sort;
 use search::path::descend;
-use search::table::{METAINDEX, TableRef, find_from};
+use search::table::{METAINDEX, find_from};
 use stage::change::{Change, NewEntry, find_spot, put_change};
 use table::{new_table, write_table};
 
@@ -31,7 +30,7 @@ fn enter(
     ensures { Entered image.old page free change name.now path.now result image.new }
 {
     let base = image.len() / 1024;
-    let plan = make_plan(image, METAINDEX, page, change, name.len() + 4, 3, base);
+    let plan = make_plan(image, METAINDEX.root, page, change, name.len() + 4, 3, base);
     let old = count_conts(image, page, plan.links.size);
     let available = old + free;
     let wanted = plan.wants.conts + plan.wants.span + plan.wants.tower;
@@ -57,13 +56,9 @@ pub fn create(image: &mut [u8], scratch: &mut [u8], free: usize, name: &[u8]) ->
     requires { CreateReady image.old scratch.old free name.now }
     ensures { Created image.old free name.now result image.new }
 {
-    let names = TableRef {
-        root: METAINDEX,
-        sort: Sort::Bytes,
-    };
-    let path = descend(image, names, name, false);
-    let page = find_from(image, names, path.pages[0] as usize, name);
-    let spot = find_spot(image, page, Sort::Bytes, name);
+    let path = descend(image, METAINDEX, name, false);
+    let page = find_from(image, METAINDEX, path.lowest(), name);
+    let spot = find_spot(image, page, METAINDEX.sort, name);
     let change = put_change(spot);
     let pages = path.pages;
     enter(image, scratch, page, free, change, name, &pages)

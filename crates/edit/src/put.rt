@@ -22,7 +22,7 @@ pub fn put(
     ensures { PutDone image.old table free key.now value.now result image.new }
 {
     let path = descend(image, table, key, false);
-    let page = find_from(image, table, path.pages[0] as usize, key);
+    let page = find_from(image, table, path.lowest(), key);
     let sort = table.sort;
     let spot = find_spot(image, page, sort, key);
     let change = put_change(spot);

@@ -52,7 +52,7 @@ pub fn remove(
     ensures { RemoveDone image.old table free key.now result image.new }
 {
     let path = descend(image, table, key, true);
-    let page = find_from(image, table, path.pages[0] as usize, key);
+    let page = find_from(image, table, path.lowest(), key);
     let sort = table.sort;
     let Ok(index) = find_spot(image, page, sort, key) else {
         return None;

@@ -1,5 +1,5 @@
 // The way down the towers of a table to a key.
-ghost use Rattle.std.specs.Prelude.{◌≤◌, ◌≡◌, length};
+ghost use Rattle.std.specs.Prelude.{◌≤◌, ◌≡◌, length, get_or};
 ghost use Rattle.search.specs.Tables.{ReadingBy};
 ghost use Rattle.search.specs.Paths.{Filled, PathIn, Ahead, Refused, Judged};
 
@@ -15,16 +15,21 @@ pub struct Path {
     pub height: usize,
 }
 
+impl Path {
+    // The tower passed at the lowest level; 0 where there are no levels.
+    pub fn lowest(self) -> usize
+        ensures { result ≡ get_or self.pages 0 0 }
+    {
+        self.pages[0] as usize
+    }
+}
+
 // The first `height` levels become `page`.
 fn fill(levels: &mut [u16; 252], height: usize, page: u16)
     requires { (height ≤ 252) × (length levels.old ≡ 252) }
     ensures { Filled levels.old height (λ _. page) levels.new }
 {
-    let mut i = 0;
-    while i < height {
-        levels[i] = page;
-        i += 1;
-    }
+    levels[..height].fill(page);
 }
 
 // Whether the way on a level ends before the tower on `next`: it is the one that was refused just before, on a level above, there is none,
@@ -33,14 +38,7 @@ fn refuses(image: &[u8], next: usize, refused: usize, bound: Bound, key: &[u8]) 
     requires { Ahead image.now bound.sort next × Refused image.now bound key.now refused }
     ensures { Judged image.now bound key.now next result }
 {
-    if next == refused {
-        return true;
-    }
-    if next == 0 {
-        return true;
-    }
-    let span = get32(image, next, 12);
-    begins_past(image, span, bound, key)
+    next == refused || next == 0 || begins_past(image, get32(image, next, 12), bound, key)
 }
 
 // Goes down the towers of the table: on each level along the towers whose spans begin at the key or below it (strictly: below it), then a
@@ -51,8 +49,10 @@ pub fn descend(image: &[u8], table: TableRef, key: &[u8], strict: bool) -> Path
     ensures { PathIn image.now table key.now strict result }
 {
     let root = table.root;
-    let sort = table.sort;
-    let bound = Bound { sort, strict };
+    let bound = Bound {
+        sort: table.sort,
+        strict,
+    };
     let mut tower = get32(image, root, 12);
     let height = get16(image, tower, 10);
     let mut left = get32(image, root, 20);

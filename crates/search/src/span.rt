@@ -36,11 +36,9 @@ pub fn seek(image: &[u8], page: usize, sort: Sort, key: &[u8]) -> Stop
     let mut left = get16(image, page, 18);
     while left != 0 {
         let g = lengths(image, at);
-        let first = g.after;
-        let order = compare_as(image, first, g.key, sort, key);
-        match order {
+        match compare_as(image, g.after, g.key, sort, key) {
             Ordering::Less => {
-                at = place_after(image, first, g.key + g.value);
+                at = place_after(image, g.after, g.key + g.value);
                 left -= 1;
             }
             Ordering::Equal => {
@@ -115,10 +113,7 @@ pub fn begins_past(image: &[u8], page: usize, bound: Bound, key: &[u8]) -> bool
     ensures { OverOn image.now page bound key.now result }
 {
     let g = lengths(image, Place { page, offset: 20 });
-    let first = g.after;
-    let sort = bound.sort;
-    let order = compare_as(image, first, g.key, sort, key);
-    match order {
+    match compare_as(image, g.after, g.key, bound.sort, key) {
         Ordering::Greater => true,
         Ordering::Less => false,
         Ordering::Equal => bound.strict,

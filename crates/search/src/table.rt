@@ -11,15 +11,18 @@ use entries::copy::number;
 use order::sort::Sort;
 use pages::read::get32;
 
-// The page of the metaindex's skip list, whose keys are the names of the tables, which sort by bytes.
-pub const METAINDEX: usize = 2;
-
 // A table: its skip-list page, and how its keys sort.
 #[derive(Clone, Copy)]
 pub struct TableRef {
     pub root: usize,
     pub sort: Sort,
 }
+
+// The metaindex, whose keys are the names of the tables, which sort by bytes.
+pub const METAINDEX: TableRef = TableRef {
+    root: 2,
+    sort: Sort::Bytes,
+};
 
 // The span of the lowest tower of a path; the first span for a path without levels, where `lowest` is 0.
 fn start(image: &[u8], root: usize, lowest: usize) -> usize
@@ -38,13 +41,11 @@ pub fn find_from(image: &[u8], table: TableRef, lowest: usize, key: &[u8]) -> us
     requires { ReadingBy image.now table × LowestIn image.now table key.now lowest }
     ensures { TargetIn image.now table key.now result }
 {
-    let root = table.root;
-    let sort = table.sort;
     let bound = Bound {
-        sort,
+        sort: table.sort,
         strict: false,
     };
-    let mut page = start(image, root, lowest);
+    let mut page = start(image, table.root, lowest);
     let mut next = get32(image, page, 12);
     while next != 0 {
         if begins_past(image, next, bound, key) {
@@ -70,7 +71,7 @@ pub fn find_by_towers(image: &[u8], table: TableRef, key: &[u8]) -> usize
     ensures { TargetIn image.now table key.now result }
 {
     let path = descend(image, table, key, false);
-    find_from(image, table, path.pages[0] as usize, key)
+    find_from(image, table, path.lowest(), key)
 }
 
 // The value under the key in the table.
@@ -87,10 +88,6 @@ pub fn find_table(image: &[u8], name: &[u8]) -> Option<usize>
     requires { Accepted image.now }
     ensures { NamedAs image.now name.now result }
 {
-    let table = TableRef {
-        root: METAINDEX,
-        sort: Sort::Bytes,
-    };
-    let value = find(image, table, name)?;
+    let value = find(image, METAINDEX, name)?;
     Some(number(image, value.at))
 }

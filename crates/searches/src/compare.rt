@@ -4,7 +4,7 @@ ghost use Rattle.blockfile.specs.WellFormed.{Accepted};
 ghost use Rattle.search.specs.Tables.{ReadingBy};
 
 use blockfile::Refusal;
-use order::sort::{Sort, sort_of};
+use order::sort::sort_of;
 use pages::read::get32;
 use refusals::answer::hand_over;
 use search::next::next_key;
@@ -102,14 +102,10 @@ pub fn compare_tables(image: &[u8], name: &mut [u8], buffer: &mut [u8]) -> Tally
     requires { Accepted image.now }
 {
     let mut tally = Tally::default();
-    let names = TableRef {
-        root: METAINDEX,
-        sort: Sort::Bytes,
-    };
-    compare_table(image, names, buffer, &mut tally);
+    compare_table(image, METAINDEX, buffer, &mut tally);
     let mut n = 0;
-    for _ in 0..get32(image, METAINDEX, 16) {
-        let Ok(m) = copy_above(image, names, name, n) else {
+    for _ in 0..get32(image, METAINDEX.root, 16) {
+        let Ok(m) = copy_above(image, METAINDEX, name, n) else {
             return tally;
         };
         n = m;

@@ -9,8 +9,7 @@ use crate::superblock::{is_kept, verify_superblock};
 use crate::table::verify_table;
 use blockfile::Counts;
 use heads::claim::{all_claimed, copy_heads};
-use order::sort::Sort;
-use search::table::{METAINDEX, TableRef};
+use search::table::METAINDEX;
 
 // What check counts, if the image is well-formed. The scratch has the heads of its pages, none of them claimed.
 fn judge(image: &[u8], scratch: &mut [u8]) -> Option<Counts>
@@ -18,11 +17,7 @@ fn judge(image: &[u8], scratch: &mut [u8]) -> Option<Counts>
     ensures { Judged image.now result }
 {
     let first = verify_superblock(image, scratch)?;
-    let meta = TableRef {
-        root: METAINDEX,
-        sort: Sort::Bytes,
-    };
-    let tables = verify_table(image, scratch, meta)?;
+    let tables = verify_table(image, scratch, METAINDEX)?;
     let keys = verify_tables(image, scratch)?;
     let free = verify_free(image, scratch, first)?;
     if !all_claimed(scratch) {

@@ -61,8 +61,8 @@ pub fn verify_tables(image: &[u8], scratch: &mut [u8]) -> Option<usize>
     requires { Lent image.now scratch.old × ((meta : Table) × MetaOn image.now meta) }
     ensures { (meta : Table) → MetaOn image.now meta → FindsAt Some (TablesFound image.now scratch.old (entries_of meta) 0) result scratch.new }
 {
-    let mut page = get32(image, METAINDEX, 8);
-    let mut left = get32(image, METAINDEX, 20);
+    let mut page = get32(image, METAINDEX.root, 8);
+    let mut left = get32(image, METAINDEX.root, 20);
     let mut keys = 0;
     while left != 0 {
         let n = verify_named(image, scratch, page, keys)?;

@@ -6,7 +6,7 @@ pub descend-path-requires : goal.descend-path-requires
 descend-path-requires c = reading c.requires.is
 
 pub find_from-page-requires : goal.find_from-page-requires
-find_from-page-requires c = (reading c.requires.is, lowest-of c.descend-path.ensures)
+find_from-page-requires c = (reading c.requires.is, rw c.lowest.ensures (lowest-of c.descend-path.ensures))
 
 pub find_spot-spot-requires : goal.find_spot-spot-requires
 find_spot-spot-requires c = spot-ready c.requires _ c.find_from-page.ensures

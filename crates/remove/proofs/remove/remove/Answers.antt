@@ -10,7 +10,7 @@ pub descend-path-requires : goal.descend-path-requires
 descend-path-requires c = reading c.requires.is
 
 pub find_from-page-requires : goal.find_from-page-requires
-find_from-page-requires c = (reading c.requires.is, lowest-of c.descend-path.ensures)
+find_from-page-requires c = (reading c.requires.is, rw c.lowest.ensures (lowest-of c.descend-path.ensures))
 
 pub find_spot-requires : goal.find_spot-requires
 find_spot-requires c = target-span (reading c.requires.is) _ _ c.find_from-page.ensures

@@ -3,4 +3,4 @@ use Rattle.search.proofs.Descents.{lowest-of}
 use Rattle.search.proofs.table.find_by_towers.Goals as goal
 
 pub find_from-requires : goal.find_from-requires
-find_from-requires c = (c.requires, lowest-of c.descend-path.ensures)
+find_from-requires c = (c.requires, rw c.lowest.ensures (lowest-of c.descend-path.ensures))

@@ -7,8 +7,8 @@ use Rattle.search.proofs.Distinct.{steps}
 use Rattle.search.proofs.table.find_from.Given as goal
 
 abbrev pub invariant-loop-next : goal.invariant-loop-next
-invariant-loop-next l = ((x : ReadingBy l.image (record { root = l.root; sort = l.bound.sort })) → Started x.of l.key l.page) × (l.next ≡ be32 (pg l.image l.page) 12)
+invariant-loop-next l = ((x : ReadingBy l.image l.fn.table) → Started x.of l.key l.page) × (l.next ≡ be32 (pg l.image l.page) 12)
 
 -- the spans that are left
 abbrev pub decreases-loop-next : goal.decreases-loop-next
-decreases-loop-next l = steps l.image (be32 (pg l.image l.root) 20) l.page
+decreases-loop-next l = steps l.image (be32 (pg l.image l.fn.table.root) 20) l.page
