@@ -40,7 +40,7 @@ pub empty-written : (img : List ℕ) (page most : ℕ)
 unfolding whole_span word16 word32
 empty-written img page most = refl
 
-pub table-written : (img : List ℕ) (x : NewTable) (a b out : List ℕ) → a ≡ apply (whole_skip_list (skip_list_as x.root x.span x.head 0 1 1 x.most)) img
+pub table-written : (img : List ℕ) (x : NewTable) (a b out : List ℕ) → a ≡ apply (whole_skip_list (skip_list_as (record { page = x.root; first = x.span; head = x.head; counts = record { size = 0; spans = 1; levels = 1 }; span_size = x.most }))) img
     → b ≡ apply (whole_span (empty_span x.span x.most)) a → out ≡ apply (whole_tower (tower_as x.head 12 0 x.span [])) b
     → out ≡ apply (whole_table (empty_table x.most x.root x.span x.head)) img
 unfolding whole_table

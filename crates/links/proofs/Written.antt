@@ -16,7 +16,7 @@ use Rattle.laws.proofs.Encodes.{length-numbers32}
 use Rattle.laws.proofs.Fitting.{length-levels}
 use Rattle.laws.proofs.TowerLinks.{from-append}
 use Rattle.pages.specs.Places.{Inside}
-use Rattle.links.specs.Links.{link_writes, Linkable, levels_below, tower_as, skip_list_as}
+use Rattle.links.specs.Links.{link_writes, Linkable, levels_below, tower_as}
 
 -- one more level
 map_more : {A : Type 0} (f : ℕ → A) (h : ℕ) → map f (from 0 (h + 1)) ≡ map f (from 0 h) ++ f h ∷ []
@@ -126,7 +126,7 @@ module _ (img : List ℕ) (page : ℕ) where
       (write (write (write (write img page 0 skip_mark) page 8 (word32 first)) page 12 (word32 head)) page 16 (word32 size ++ (word32 spans ++ word32 levels)))
       page 28 (word16 span_size))
       page 30 (replicate 994 0)
-      ≡ apply (whole_skip_list (skip_list_as page first head size spans levels span_size)) img
+      ≡ apply (whole_skip_list (record { page = page; first = first; level = head; size = size; spans = spans; levels = levels; span_size = span_size })) img
   unfolding whole_skip_list counts
   skip-page first head size spans levels span_size =
       let cs : List ℕ = word32 size ++ (word32 spans ++ word32 levels) in

@@ -48,34 +48,44 @@ pub fn put_tower(
     put_zeros(image, page, 16 + 4 * height, 1008 - 4 * height)
 }
 
-// The numbers of keys, spans and towers on a skip-list page.
-pub fn put_counts(image: &mut [u8], root: usize, size: usize, spans: usize, levels: usize)
+// A table's numbers of keys, spans and towers.
+#[derive(Clone, Copy)]
+pub struct Counts {
+    pub size: usize,
+    pub spans: usize,
+    pub levels: usize,
+}
+
+// The counts of a table, on its skip-list page.
+pub fn put_counts(image: &mut [u8], root: usize, counts: Counts)
     requires { Inside image.old root 16 12 }
-    ensures { image.new ≡ write image.old root 16 (word32 size ++ (word32 spans ++ word32 levels)) }
+    ensures { image.new ≡ write image.old root 16 (word32 counts.size ++ (word32 counts.spans ++ word32 counts.levels)) }
 {
-    put32(image, root, 16, size);
-    put32(image, root, 20, spans);
-    put32(image, root, 24, levels)
+    put32(image, root, 16, counts.size);
+    put32(image, root, 20, counts.spans);
+    put32(image, root, 24, counts.levels)
+}
+
+// A skip list to be written: its page, the pages of its first span and its head, its counts and its span size.
+#[derive(Clone, Copy)]
+pub struct NewSkipList {
+    pub page: usize,
+    pub first: usize,
+    pub head: usize,
+    pub counts: Counts,
+    pub span_size: usize,
 }
 
 // A skip-list page written whole.
-pub fn put_skip_list(
-    image: &mut [u8],
-    page: usize,
-    first: usize,
-    head: usize,
-    size: usize,
-    spans: usize,
-    levels: usize,
-    span_size: usize,
-)
-    requires { Inside image.old page 0 1024 }
-    ensures { image.new ≡ apply (whole_skip_list (skip_list_as page first head size spans levels span_size)) image.old }
+pub fn put_skip_list(image: &mut [u8], list: NewSkipList)
+    requires { Inside image.old list.page 0 1024 }
+    ensures { image.new ≡ apply (whole_skip_list (skip_list_as list)) image.old }
 {
+    let page = list.page;
     put_mark(image, page, SKIP_LIST);
-    put32(image, page, 8, first);
-    put32(image, page, 12, head);
-    put_counts(image, page, size, spans, levels);
-    put16(image, page, 28, span_size);
+    put32(image, page, 8, list.first);
+    put32(image, page, 12, list.head);
+    put_counts(image, page, list.counts);
+    put16(image, page, 28, list.span_size);
     put_zeros(image, page, 30, 994)
 }
