@@ -46,7 +46,7 @@ pub table-written : (img : List ℕ) (x : NewTable) (a b out : List ℕ) → a �
 unfolding whole_table
 table-written img x a b out e f g =
     g
-    ∙ ap (λ (ws : List Write). apply ws b) (sym (new-head x.most x.root x.span x.head []))
+    ∙ ap (λ (ws : List Write). apply ws b) (sym (new-head x.most x.root x.span x.head))
     ∙ ap (apply tower)
     (f ∙ ap (λ (ws : List Write). apply ws a) (sym (append-nil (whole_span (empty_span x.span x.most)))) ∙ ap (apply span) e)
     ∙ sym (apply-append skip (span ++ tower) img ∙ apply-append span tower (apply skip img))

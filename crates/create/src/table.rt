@@ -64,7 +64,6 @@ pub fn write_table(image: &mut [u8], table: NewTable)
     requires { TableReady image.old table }
     ensures { image.new ≡ apply (whole_table (empty_table table.most table.root table.span table.head)) image.old }
 {
-    let nexts = [0usize; 252];
     let list = NewSkipList {
         page: table.root,
         first: table.span,
@@ -78,5 +77,5 @@ pub fn write_table(image: &mut [u8], table: NewTable)
     };
     put_skip_list(image, list);
     put_empty(image, table.span, table.most);
-    put_tower(image, table.head, 12, 0, table.span, &nexts)
+    put_tower(image, table.head, 12, table.span, &[])
 }

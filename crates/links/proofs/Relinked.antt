@@ -15,7 +15,7 @@ use Rattle.laws.proofs.TowerLinks.{map-from}
 use Rattle.laws.proofs.TableTowers.{take_rest, behind-gone}
 use Rattle.entries.specs.Places.{IsPage}
 use Rattle.search.specs.Tables.{Reading}
-use Rattle.links.specs.Links.{link_writes, Linkable, levels_below, tower_as}
+use Rattle.links.specs.Links.{link_writes, Linkable, tower_as}
 use Rattle.links.specs.Levels.{Before, After}
 use Rattle.search.proofs.Towers.{last-first}
 use Rattle.links.proofs.Standing.{before-page}
@@ -72,6 +72,6 @@ counts-written t img = refl
 -- ---- Create: the head of a new table
 
 module _ (span_size root span head : ℕ) where
-  pub new-head : (levels : List ℕ) → gather whole_tower (towers_in (empty_table span_size root span head)) ≡ whole_tower (tower_as head 12 0 span (levels_below levels 0))
+  pub new-head : gather whole_tower (towers_in (empty_table span_size root span head)) ≡ whole_tower (tower_as head 12 0 span [])
   unfolding whole_tower
-  new-head levels = refl
+  new-head = refl

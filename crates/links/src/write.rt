@@ -1,9 +1,9 @@
 // Towers and skip lists written: single entries, counts, and whole pages.
-ghost use Rattle.std.specs.Prelude.{◌≤◌, ◌≡◌, ◌++◌};
+ghost use Rattle.std.specs.Prelude.{◌≤◌, ◌≡◌, ◌++◌, length};
 ghost use Rattle.blockfile.specs.Bytes.{word32, write, apply, gather};
 ghost use Rattle.blockfile.specs.Encode.{whole_tower, whole_skip_list};
 ghost use Rattle.pages.specs.Places.{Inside};
-ghost use Rattle.links.specs.Links.{link_writes, Linkable, levels_below, tower_as, skip_list_as};
+ghost use Rattle.links.specs.Links.{link_writes, Linkable, tower_as, skip_list_as};
 
 use pages::mark::{SKIP_LIST, TOWER};
 use pages::write::{put_mark, put_zeros, put16, put32};
@@ -18,33 +18,27 @@ pub fn link_levels(image: &mut [u8], before: &[usize; 252], values: &[usize; 252
     }
 }
 
-// The first `height` numbers of `nexts` as the entries on a tower's page.
-fn put_entries(image: &mut [u8], page: usize, height: usize, nexts: &[usize; 252])
-    requires { Inside image.old page 0 1024 × (height ≤ 252) }
-    ensures { image.new ≡ write image.old page 16 (gather word32 (levels_below nexts.now height)) }
+// The numbers as the entries on a tower's page.
+fn put_entries(image: &mut [u8], page: usize, nexts: &[usize])
+    requires { Inside image.old page 0 1024 × (length nexts.now ≤ 252) }
+    ensures { image.new ≡ write image.old page 16 (gather word32 nexts.now) }
 {
-    for i in 0..height {
-        put32(image, page, 16 + 4 * i, nexts[i]);
+    for (i, &next) in nexts.iter().enumerate() {
+        put32(image, page, 16 + 4 * i, next);
     }
 }
 
-// A tower's page written whole; its entries are the first `height` numbers of `nexts`.
-pub fn put_tower(
-    image: &mut [u8],
-    page: usize,
-    max: usize,
-    height: usize,
-    span: usize,
-    nexts: &[usize; 252],
-)
-    requires { Inside image.old page 0 1024 × (height ≤ 252) }
-    ensures { image.new ≡ apply (whole_tower (tower_as page max height span (levels_below nexts.now height))) image.old }
+// A tower's page written whole, with these entries: as many as the tower is high.
+pub fn put_tower(image: &mut [u8], page: usize, max: usize, span: usize, nexts: &[usize])
+    requires { Inside image.old page 0 1024 × (length nexts.now ≤ 252) }
+    ensures { image.new ≡ apply (whole_tower (tower_as page max (length nexts.now) span nexts.now)) image.old }
 {
+    let height = nexts.len();
     put_mark(image, page, TOWER);
     put16(image, page, 8, max);
     put16(image, page, 10, height);
     put32(image, page, 12, span);
-    put_entries(image, page, height, nexts);
+    put_entries(image, page, nexts);
     put_zeros(image, page, 16 + 4 * height, 1008 - 4 * height)
 }
 
