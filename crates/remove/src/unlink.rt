@@ -48,8 +48,7 @@ fn let_go(image: &mut [u8], going: Going, tower: OwnTower, path: &[u16; 252]) ->
     requires { GoingReady image.old going tower path.now }
     ensures { LetGo image.old going tower path.now result image.new }
 {
-    let mut before = [0usize; 252];
-    towers_before(path, going.list.head, &mut before);
+    let before = towers_before(path, going.list.head);
     let after = tower.after;
     let given = give_gone(image, going.links.first, going.page, tower.page);
     link_spans(image, going.links.prev, going.links.next);
