@@ -7,7 +7,8 @@ ghost use Rattle.edit.specs.Staged.{header, PartReady, WrotePart, stream_in};
 use draw::list::set_number;
 use draw::write::write_chain;
 
-// What a span's stream begins with: the span's links, 0 for none, its max keys and its number of entries.
+// What a span's stream begins with: the span's links, its max keys and its number of entries.
+// The numbers are as the page has them, so a link is 0 for none.
 #[derive(Clone, Copy)]
 pub struct Header {
     pub prev: usize,

@@ -7,6 +7,7 @@ ghost use Rattle.links.specs.Levels.{Pages, page_or_head, HasBefore, AfterIn, Pr
 
 use pages::read::{get16, get32};
 
+// The page of a path, or the head where it has none. A path has 0 for none, as the entries have on the image that it is read from.
 fn or_head(head: usize, page: usize) -> usize
     ensures { result ≡ page_or_head head page }
 {

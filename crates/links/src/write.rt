@@ -9,6 +9,7 @@ use pages::mark::{SKIP_LIST, TOWER};
 use pages::write::{put_mark, put_zeros, put16, put32};
 
 // At each level below `height`, the entry of the tower on the page in `before` becomes the number in `values`.
+// The level is the place of the entry too, so an index is plainer than a zip of the two lists with a count.
 pub fn link_levels(image: &mut [u8], before: &[usize; 252], values: &[usize; 252], height: usize)
     requires { Linkable image.old before.now height }
     ensures { image.new ≡ apply (link_writes before.now values.now height) image.old }
