@@ -40,13 +40,13 @@ pub empty-written : (img : List ℕ) (page most : ℕ)
 unfolding whole_span word16 word32
 empty-written img page most = refl
 
-pub table-written : (img : List ℕ) (x : NewTable) (a b out : List ℕ) → a ≡ apply (whole_skip_list (skip_list_as x.root x.span x.head 0 1 1 x.most)) img
+pub table-written : (img : List ℕ) (x : NewTable) (a b out : List ℕ) → a ≡ apply (whole_skip_list (skip_list_as (record { page = x.root; first = x.span; head = x.head; counts = record { size = 0; spans = 1; levels = 1 }; span_size = x.most }))) img
     → b ≡ apply (whole_span (empty_span x.span x.most)) a → out ≡ apply (whole_tower (tower_as x.head 12 0 x.span [])) b
     → out ≡ apply (whole_table (empty_table x.most x.root x.span x.head)) img
 unfolding whole_table
 table-written img x a b out e f g =
     g
-    ∙ ap (λ (ws : List Write). apply ws b) (sym (new-head x.most x.root x.span x.head []))
+    ∙ ap (λ (ws : List Write). apply ws b) (sym (new-head x.most x.root x.span x.head))
     ∙ ap (apply tower)
     (f ∙ ap (λ (ws : List Write). apply ws a) (sym (append-nil (whole_span (empty_span x.span x.most)))) ∙ ap (apply span) e)
     ∙ sym (apply-append skip (span ++ tower) img ∙ apply-append span tower (apply skip img))

@@ -7,8 +7,8 @@ ghost use Rattle.pages.specs.Places.{Inside};
 ghost use Rattle.pages.specs.Taking.{Ahead};
 ghost use Rattle.create.specs.Tables.{TableFor, TableReady, empty_span};
 
-use edit::span::put_header;
-use links::write::{put_skip_list, put_tower};
+use edit::span::{Header, put_header};
+use links::write::{Counts, NewSkipList, put_skip_list, put_tower};
 use pages::free::taken_after;
 use pages::mark::Kind;
 use pages::read::get16;
@@ -46,7 +46,16 @@ fn put_empty(image: &mut [u8], page: usize, most: usize)
     ensures { image.new ≡ apply (whole_span (empty_span page most)) image.old }
 {
     let mut stream = [0u8; 12];
-    put_header(&mut stream, 0, 0, 0, most, 0);
+    put_header(
+        &mut stream,
+        0,
+        Header {
+            prev: 0,
+            next: 0,
+            most,
+            size: 0,
+        },
+    );
     put_page(image, page, Kind::Span, 0, &stream, 0)
 }
 
@@ -55,10 +64,18 @@ pub fn write_table(image: &mut [u8], table: NewTable)
     requires { TableReady image.old table }
     ensures { image.new ≡ apply (whole_table (empty_table table.most table.root table.span table.head)) image.old }
 {
-    let nexts = [0usize; 252];
-    put_skip_list(
-        image, table.root, table.span, table.head, 0, 1, 1, table.most,
-    );
+    let list = NewSkipList {
+        page: table.root,
+        first: table.span,
+        head: table.head,
+        counts: Counts {
+            size: 0,
+            spans: 1,
+            levels: 1,
+        },
+        span_size: table.most,
+    };
+    put_skip_list(image, list);
     put_empty(image, table.span, table.most);
-    put_tower(image, table.head, 12, 0, table.span, &nexts)
+    put_tower(image, table.head, 12, table.span, &[])
 }

@@ -7,7 +7,7 @@ use crate::list::set_number;
 use pages::free::{give_page, take_page};
 use pages::read::get32;
 
-// How many old pages are kept, and the first one that is left over, 0 for none.
+// How many old pages are kept, and the first one that is left over, 0 for none as a page's link has it.
 #[derive(Clone, Copy)]
 struct Kept {
     count: usize,
@@ -15,6 +15,7 @@ struct Kept {
 }
 
 // Keeps the first `wanted` pages of the chain, or all if there are fewer: stores their numbers from index `from` on.
+// The loop walks along the links and ends with the chain or the count: it is no range of numbers.
 fn keep_pages(image: &[u8], first: usize, wanted: usize, numbers: &mut [u8], from: usize) -> Kept
     requires { Chained image.now first × (4 * (from + wanted) ≤ length numbers.old) }
     ensures { KeptFor image.now first wanted numbers.old from result numbers.new }
@@ -41,7 +42,7 @@ fn take_pages(image: &mut [u8], count: usize, numbers: &mut [u8], from: usize)
 }
 
 // Gives back a chain of continuation pages. Answers how many. The link of a page is read before the page is given back, which
-// overwrites it.
+// overwrites it. The loop walks along the links: how many there are is not known before.
 pub fn give_chain(image: &mut [u8], first: usize) -> usize
     requires { Chained image.old first }
     ensures { GaveChain image.old first result image.new }

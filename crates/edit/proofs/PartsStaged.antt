@@ -137,9 +137,6 @@ module _ {img b : List ℕ} {x : Plan} {c : Change} {k v : List ℕ} where
 
   -- ---- Both parts
 
-  pub parts_stay : PartsReady img b x c k v → StayStage img b x c k v
-  parts_stay r = record { span = r.span; staying = r.parts.staying; room = r.stay }
-
   pub only-stay : x.wants.span ≡ 0 → (q : Cursor) (out : List ℕ) → StayStaged img b x c k v q out → PartsStaged img x c k v out
   only-stay z q out w = record { is = λ y p. record { stay = (w.is y p.staying).staged; moved = λ h. absurd (omega arith) } }
 

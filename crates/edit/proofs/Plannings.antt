@@ -27,10 +27,7 @@ stay_part x n =
       count = 1 + x.wants.conts;
       word = x.base;
       end = 4 * x.base + x.shape.stay;
-      prev = x.links.prev;
-      next = n;
-      most = x.list.most;
-      size = x.shape.half;
+      top = record { prev = x.links.prev; next = n; most = x.list.most; size = x.shape.half };
     }
 
 -- the new span
@@ -41,10 +38,7 @@ moved_part x =
       count = x.wants.span;
       word = x.base + 254 * (1 + x.wants.conts);
       end = 4 * (x.base + 254 * (1 + x.wants.conts)) + x.shape.moved;
-      prev = x.page;
-      next = x.links.next;
-      most = x.list.most;
-      size = x.shape.entries - x.shape.half;
+      top = record { prev = x.page; next = x.links.next; most = x.list.most; size = x.shape.entries - x.shape.half };
     }
 
 -- the previous link of the span that follows is written where there is one

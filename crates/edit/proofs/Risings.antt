@@ -3,7 +3,8 @@ use Prim.Native.Nat.{ℕ, zero, suc, ◌+◌, ◌*◌, ◌≤◌, ◌<◌}
 use native.Mathlib.Omega.{arith}
 use mathlib.Core.Path.{◌≡◌, refl, ap, sym, ◌∙◌}
 use mathlib.Core.List.{List, [], ◌∷◌, ◌++◌}
-use lib.ListN.{length, get_or, replicate}
+use lib.ListN.{length, get_or, take, replicate}
+use lib.Seq.{length-take-le}
 use borrow.Author.Tests.{lt-ltb, le-ltb}
 use Rattle.blockfile.specs.Bytes.{Write, on, word16, word32, write, apply}
 use Rattle.blockfile.specs.Encode.{whole_tower}
@@ -11,6 +12,7 @@ use Rattle.laws.proofs.Writes.{apply-append}
 use Rattle.laws.proofs.TowerLinks.{map-from}
 use Rattle.entries.specs.Places.{IsPage}
 use Rattle.links.specs.Links.{link_writes, Linkable, levels_below, tower_as}
+use Rattle.links.proofs.Written.{levels-taken}
 use Rattle.edit.specs.declared.tower.NewTower.{NewTower}
 use Rattle.edit.specs.Cuts.{links_on, tower_writes}
 use Rattle.edit.specs.Towers.{rise_of}
@@ -35,7 +37,8 @@ linkable-in out e l = record { small = omega (arith, l.small); few = l.few; page
 
 -- the tower whole, then the links to it, then the head, where it rises
 module _ (x : NewTower) (before after img a b : List ℕ)
-    (one : a ≡ apply (whole_tower (tower_as x.page x.max x.height x.span (levels_below after x.height))) img)
+    (high : x.height ≤ length after)
+    (one : a ≡ apply (whole_tower (tower_as x.page x.max (length (take x.height after)) x.span (take x.height after))) img)
     (two : b ≡ apply (links_on before x.page x.height) a) where
   abbrev whole : List Write
   whole = whole_tower (tower_as x.page x.max x.height x.span (levels_below after x.height))
@@ -43,8 +46,11 @@ module _ (x : NewTower) (before after img a b : List ℕ)
   abbrev links : List Write
   links = links_on before x.page x.height
 
+  taken : whole_tower (tower_as x.page x.max (length (take x.height after)) x.span (take x.height after)) ≡ whole
+  taken = λ j. whole_tower (tower_as x.page x.max (length-take-le x.height after high j) x.span (levels-taken after x.height high j))
+
   then-more : (us : List Write) → apply us b ≡ apply (whole ++ (links ++ us)) img
-  then-more us = ap (apply us) two ∙ sym (apply-append links us a) ∙ ap (apply (links ++ us)) one ∙ sym (apply-append whole (links ++ us) img)
+  then-more us = ap (apply us) two ∙ sym (apply-append links us a) ∙ ap (apply (links ++ us)) (one ∙ ap (λ (ws : List Write). apply ws img) taken) ∙ sym (apply-append whole (links ++ us) img)
 
   pub head-rises : x.top < x.height → (out : List ℕ) → out ≡ write b x.head 10 (word16 x.height) → out ≡ apply (tower_writes (rise_of x before after) (x.page ∷ [])) img
   head-rises l out e = e ∙ then-more (on x.head 10 (word16 x.height) ∷ []) ∙ rw (lt-ltb x.top x.height l)

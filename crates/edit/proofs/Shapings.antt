@@ -121,16 +121,16 @@ module _ {img : List ℕ} {page : ℕ} {c : Change} {both : ℕ} {l : SkipList} 
               (k ∙ ap₂ (λ (p w : ℕ). new_height (p + 1) w) o.spans o.max);
         }
 
-    pub shape-for-plain : many ≤ l.most → half ≡ many
-        → ShapeFor img page c both l (record { entries = half; half = half; stay = ends.stay; moved = ends.moved; height = 0 })
-    shape-for-plain b h =
+    pub shape-for-plain : (height : ℕ) → many ≤ l.most → half ≡ many → height ≡ 0
+        → ShapeFor img page c both l (record { entries = many; half = half; stay = ends.stay; moved = ends.moved; height = height })
+    shape-for-plain height b h k =
         record {
           stay = m.stay_near;
           moved = m.moved_near;
           is = λ y f t o e z.
-              let n : half ≡ length (spliced c e y.linked.span.entries) = h ∙ q ∙ entries-are y f e in
+              let n : many ≡ length (spliced c e y.linked.span.entries) = q ∙ entries-are y f e in
               let v : Halved c e y.linked.span.entries half ends = m.is y e z in
-              shape-plain t (spliced c e y.linked.span.entries) _ n v.stay v.moved (omega (arith, o.most, n, h)) refl refl;
+              shape-plain t (spliced c e y.linked.span.entries) _ n v.stay v.moved (omega (arith, o.most, n)) h k;
         }
 
 -- ---- The continuation pages that a span has

@@ -151,7 +151,7 @@ module _ {b : List ℕ} {at : ℕ} {es : List Entry} (s : Staged b at es) (prev 
 
 -- the buffer with the header of the part stored
 abbrev pub headed : (b : List ℕ) → Part → List ℕ
-headed b x = sets b (4 * x.word) (header x.prev x.next x.most x.size)
+headed b x = sets b (4 * x.word) (header x.top.prev x.top.next x.top.most x.top.size)
 
 -- a span's stream fills all its pages but the last
 reached-long : (es : List Entry) → 1016 * (reached es - 1) ≤ entries_end entries_from es
@@ -159,9 +159,9 @@ unfolding reached
 reached-long es = omega arith
 
 module _ {img b : List ℕ} {x : Part} {ps : List ℕ} {es : List Entry} (p : PartOf img b x ps es) where
-  part-stream : stream_in (headed b x) (4 * x.word) x.end ≡ header x.prev x.next x.most x.size ++ entries_bytes entries_from es
+  part-stream : stream_in (headed b x) (4 * x.word) x.end ≡ header x.top.prev x.top.next x.top.most x.top.size ++ entries_bytes entries_from es
   part-stream =
-      ap (stream_in (headed b x) (4 * x.word)) p.end ∙ stream-is p.staged x.prev x.next x.most x.size
+      ap (stream_in (headed b x) (4 * x.word)) p.end ∙ stream-is p.staged x.top.prev x.top.next x.top.most x.top.size
 
   pub header-fits : 4 * x.word + 12 ≤ length b
   header-fits = omega (arith, p.staged.inside, entries-after entries_from es)
@@ -173,7 +173,7 @@ module _ {img b : List ℕ} {x : Part} {ps : List ℕ} {es : List Entry} (p : Pa
   part-writable small =
       record {
         pages = ps;
-        stand = numbers-kept (header x.prev x.next x.most x.size) b (4 * x.word) (4 * x.at) ps (omega (arith, p.many, p.apart)) p.stand;
+        stand = numbers-kept (header x.top.prev x.top.next x.top.most x.top.size) b (4 * x.word) (4 * x.at) ps (omega (arith, p.many, p.apart)) p.stand;
         many = p.many;
         each = p.each;
         small = small;
@@ -181,8 +181,8 @@ module _ {img b : List ℕ} {x : Part} {ps : List ℕ} {es : List Entry} (p : Pa
         long = rw part-stream
             (omega (
               arith,
-              length-append (header x.prev x.next x.most x.size) (entries_bytes entries_from es),
-              length-header x.prev x.next x.most x.size,
+              length-append (header x.top.prev x.top.next x.top.most x.top.size) (entries_bytes entries_from es),
+              length-header x.top.prev x.top.next x.top.most x.top.size,
               length-entries es entries_from,
               reached-long es,
               p.reach,
@@ -199,13 +199,13 @@ module _ {img b : List ℕ} {x : Part} {ps : List ℕ} {es : List Entry} (p : Pa
       listed [] l = absurd (omega arith)
       listed (n ∷ ns) l = refl
 
-      joined : header x.prev x.next x.most (length es) ++ entries_bytes entries_from es
-          ≡ word32 x.prev ++ (word32 x.next ++ (word16 x.most ++ (word16 (length es) ++ entries_bytes entries_from es)))
+      joined : header x.top.prev x.top.next x.top.most (length es) ++ entries_bytes entries_from es
+          ≡ word32 x.top.prev ++ (word32 x.top.next ++ (word16 x.top.most ++ (word16 (length es) ++ entries_bytes entries_from es)))
       joined = simp append_assoc
 
       stream : stream_in (headed b x) (4 * x.word) x.end
-          ≡ word32 x.prev ++ (word32 x.next ++ (word16 x.most ++ (word16 (length es) ++ entries_bytes entries_from es)))
-      stream = part-stream ∙ ap (λ (k : ℕ). header x.prev x.next x.most k ++ entries_bytes entries_from es) p.size ∙ joined
+          ≡ word32 x.top.prev ++ (word32 x.top.next ++ (word16 x.top.most ++ (word16 (length es) ++ entries_bytes entries_from es)))
+      stream = part-stream ∙ ap (λ (k : ℕ). header x.top.prev x.top.next x.top.most k ++ entries_bytes entries_from es) p.size ∙ joined
 
   pub part-wrote : length img ≤ 4194304 → (out : List ℕ)
       → WroteChain img (headed b x) x.at x.count (stream_in (headed b x) (4 * x.word) x.end) out → out ≡ apply (whole_span (span_of x ps es)) img

@@ -30,22 +30,22 @@ pub record PartOf (img buffer : List ℕ) (x : Part) (pages : List ℕ) (es : Li
   pub apart : x.at + x.count ≤ x.word
   pub staged : Staged buffer (4 * x.word) es
   pub end : x.end ≡ 4 * x.word + entries_end entries_from es
-  pub size : x.size ≡ length es
+  pub size : x.top.size ≡ length es
 
 -- there are such, and the image is small
 pub record PartReady (img buffer : List ℕ) (x : Part) : Type 0 where
   pub small : length img ≤ 4194304
-  pub most : x.most < 65536
-  pub few : x.size < 65536
+  pub most : x.top.most < 65536
+  pub few : x.top.size < 65536
   pub pages : List ℕ
   pub entries : List Entry
   pub part : PartOf img buffer x pages entries
 
 -- the span
 abbrev pub span_of : Part → (pages : List ℕ) → List Entry → LinkedSpan
-span_of x ps es = record { span = record { page = first_of ps; conts = drop 1 ps; entries = es }; prev = x.prev; next = x.next; max_keys = x.most }
+span_of x ps es = record { span = record { page = first_of ps; conts = drop 1 ps; entries = es }; prev = x.top.prev; next = x.top.next; max_keys = x.top.most }
 
 -- it was written whole, and its header stored in the buffer
 pub record WrotePart (img buffer : List ℕ) (x : Part) (out after : List ℕ) : Type 0 where
   pub image : (ps : List ℕ) (es : List Entry) → PartOf img buffer x ps es → out ≡ apply (whole_span (span_of x ps es)) img
-  pub kept : after ≡ sets buffer (4 * x.word) (header x.prev x.next x.most x.size)
+  pub kept : after ≡ sets buffer (4 * x.word) (header x.top.prev x.top.next x.top.most x.top.size)

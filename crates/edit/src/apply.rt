@@ -75,10 +75,8 @@ fn commit_tall(image: &mut [u8], buffer: &mut [u8], plan: Plan, path: &[u16; 252
     requires { CommitOn image.old buffer.old plan path.now × (plan.wants.tower ≡ 0 → ⊥) }
     ensures { CommittedOn image.old buffer.old plan path.now image.new }
 {
-    let mut before = [0usize; 252];
-    towers_before(path, plan.list.head, &mut before);
-    let mut after = [0usize; 252];
-    towers_after(image, plan.root, &before, &mut after);
+    let before = towers_before(path, plan.list.head);
+    let after = towers_after(image, plan.root, &before);
     draw_plan(image, buffer, plan);
     write_tall(image, buffer, plan, &before, &after)
 }

@@ -17,6 +17,7 @@ pub struct SkipList {
 }
 
 // A span: the spans before and behind it, its first continuation page, 0 for none, and its number of entries.
+// The numbers are as the page has them, 0 for none too: they are passed on and written again as they were read.
 #[derive(Clone, Copy)]
 pub struct Links {
     pub prev: usize,

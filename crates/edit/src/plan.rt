@@ -4,7 +4,7 @@ ghost use Rattle.edit.specs.Plans.{StayReady, WroteStay, MovedReady, WroteMoved,
 
 use crate::fields::{Links, SkipList, read_links, read_list};
 use crate::shape::{Shape, Wants, shape_of, wanted};
-use crate::span::{Part, write_span};
+use crate::span::{Header, Part, write_span};
 use draw::list::number_at;
 use pages::write::put32;
 use stage::change::Change;
@@ -63,10 +63,12 @@ fn write_stay(image: &mut [u8], buffer: &mut [u8], plan: Plan, next: usize)
         count: 1 + plan.wants.conts,
         word: plan.base,
         end: 4 * plan.base + plan.shape.stay,
-        prev: plan.links.prev,
-        next,
-        most: plan.list.most,
-        size: plan.shape.half,
+        top: Header {
+            prev: plan.links.prev,
+            next,
+            most: plan.list.most,
+            size: plan.shape.half,
+        },
     };
     write_span(image, buffer, part)
 }
@@ -83,10 +85,12 @@ fn write_moved(image: &mut [u8], buffer: &mut [u8], plan: Plan)
         count: plan.wants.span,
         word,
         end: 4 * word + plan.shape.moved,
-        prev: plan.page,
-        next: plan.links.next,
-        most: plan.list.most,
-        size: plan.shape.entries - plan.shape.half,
+        top: Header {
+            prev: plan.page,
+            next: plan.links.next,
+            most: plan.list.most,
+            size: plan.shape.entries - plan.shape.half,
+        },
     };
     write_span(image, buffer, part)
 }

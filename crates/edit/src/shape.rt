@@ -17,7 +17,8 @@ pub struct Shape {
     pub height: usize,
 }
 
-// How many pages are wanted: continuation pages of the span, pages of a new span, and a tower's page, 1 or 0.
+// How many pages are wanted: continuation pages of the span, pages of a new span, and pages of a tower, 1 or 0.
+// All three are counts, and are added: a flag for the tower would be turned into a number at each sum.
 #[derive(Clone, Copy)]
 pub struct Wants {
     pub conts: usize,
@@ -52,25 +53,18 @@ pub fn shape_of(
     ensures { ShapeFor image.now page change both list result }
 {
     let entries = size_after(size, change);
-    if list.most < entries {
-        let half = (entries + 1) / 2;
-        let ends = measure(image, page, change, both, half);
-        let height = tower_height(list.spans + 1, list.max);
-        return Shape {
-            entries,
-            half,
-            stay: ends.stay,
-            moved: ends.moved,
-            height,
-        };
-    }
-    let ends = measure(image, page, change, both, entries);
+    let (half, height) = if list.most < entries {
+        (entries.div_ceil(2), tower_height(list.spans + 1, list.max))
+    } else {
+        (entries, 0)
+    };
+    let ends = measure(image, page, change, both, half);
     Shape {
         entries,
-        half: entries,
+        half,
         stay: ends.stay,
         moved: ends.moved,
-        height: 0,
+        height,
     }
 }
 

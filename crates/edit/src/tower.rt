@@ -33,7 +33,7 @@ pub fn write_tower(image: &mut [u8], new: NewTower, before: &[usize; 252], after
     requires { TowerReady image.old new before.now }
     ensures { image.new ≡ apply (tower_writes (rise_of new before.now after.now) (new.page ∷ [])) image.old }
 {
-    put_tower(image, new.page, new.max, new.height, new.span, after);
+    put_tower(image, new.page, new.max, new.span, &after[..new.height]);
     link_tower(image, before, new.height, new.page);
     if new.top < new.height {
         put16(image, new.head, 10, new.height)

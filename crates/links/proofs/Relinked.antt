@@ -6,8 +6,8 @@ use mathlib.Core.List.{List, [], ◌∷◌, ◌++◌}
 use lib.ListN.{length, get_or, take, drop}
 use Rattle.blockfile.specs.Bytes.{on, word32, write, apply, gather}
 use Rattle.blockfile.specs.Layout.{Tower, Column, Table, columns, towers_of, entries_of}
-use Rattle.blockfile.specs.WellFormed.{next_at, towers_in, skip_list_of}
-use Rattle.blockfile.specs.Encode.{whole_tower, counts, whole_skip_list}
+use Rattle.blockfile.specs.WellFormed.{next_at, towers_in}
+use Rattle.blockfile.specs.Encode.{whole_tower, counts}
 use Rattle.blockfile.specs.Put.{counts_on, last_at, relink}
 use Rattle.blockfile.specs.Remove.{without}
 use Rattle.blockfile.specs.Create.{empty_table}
@@ -15,7 +15,7 @@ use Rattle.laws.proofs.TowerLinks.{map-from}
 use Rattle.laws.proofs.TableTowers.{take_rest, behind-gone}
 use Rattle.entries.specs.Places.{IsPage}
 use Rattle.search.specs.Tables.{Reading}
-use Rattle.links.specs.Links.{link_writes, Linkable, levels_below, tower_as, skip_list_as}
+use Rattle.links.specs.Links.{link_writes, Linkable, tower_as}
 use Rattle.links.specs.Levels.{Before, After}
 use Rattle.search.proofs.Towers.{last-first}
 use Rattle.links.proofs.Standing.{before-page}
@@ -69,12 +69,9 @@ pub counts-written : (t : Table) (img : List ℕ)
 unfolding counts
 counts-written t img = refl
 
--- ---- Create: the skip list and the head of a new table
+-- ---- Create: the head of a new table
 
 module _ (span_size root span head : ℕ) where
-  pub new-skip-list : whole_skip_list (skip_list_of (empty_table span_size root span head)) ≡ whole_skip_list (skip_list_as root span head 0 1 1 span_size)
-  new-skip-list = refl
-
-  pub new-head : (levels : List ℕ) → gather whole_tower (towers_in (empty_table span_size root span head)) ≡ whole_tower (tower_as head 12 0 span (levels_below levels 0))
+  pub new-head : gather whole_tower (towers_in (empty_table span_size root span head)) ≡ whole_tower (tower_as head 12 0 span [])
   unfolding whole_tower
-  new-head levels = refl
+  new-head = refl

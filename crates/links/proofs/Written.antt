@@ -2,9 +2,11 @@
 use Prim.Native.Nat.{ℕ, zero, suc, ◌+◌, ◌*◌, ◌-◌, ◌<◌, ◌≤◌}
 use native.Mathlib.Omega.{arith}
 use native.Mathlib.Nat.{zero-add}
+use native.Mathlib.Numerals.{add-one}
 use mathlib.Core.Path.{◌≡◌, refl, ap, sym, ◌∙◌}
 use mathlib.Core.List.{List, [], ◌∷◌, ◌++◌, map, map-append, append_assoc, append-nil}
-use lib.ListN.{length, get_or, replicate, length-append}
+use lib.ListN.{length, get_or, take, replicate, length-append}
+use lib.Seq.{take-add, take_all, drop-cons, length-take-le}
 use Rattle.blockfile.specs.Bytes.{Write, on, word16, word32, write, apply, gather, from}
 use Rattle.blockfile.specs.Marks.{skip_mark, tower_mark}
 use Rattle.blockfile.specs.Encode.{whole_tower, counts, whole_skip_list}
@@ -13,14 +15,22 @@ use Rattle.laws.proofs.Pages.{length-write, write-append, write-padded}
 use Rattle.laws.proofs.Places.{gather_append}
 use Rattle.laws.proofs.Writes.{apply-append}
 use Rattle.laws.proofs.Encodes.{length-numbers32}
-use Rattle.laws.proofs.Fitting.{length-levels}
 use Rattle.laws.proofs.TowerLinks.{from-append}
 use Rattle.pages.specs.Places.{Inside}
-use Rattle.links.specs.Links.{link_writes, Linkable, levels_below, tower_as, skip_list_as}
+use Rattle.links.specs.Links.{link_writes, Linkable, levels_below, tower_as}
 
 -- one more level
 map_more : {A : Type 0} (f : ℕ → A) (h : ℕ) → map f (from 0 (h + 1)) ≡ map f (from 0 h) ++ f h ∷ []
 map_more f h = ap (map f) (from-append 0 h 1) ∙ map-append f (from 0 h) (from (0 + h) 1) ∙ rw zero-add
+
+-- the first levels, taken and read one by one
+pub levels-taken : (levels : List ℕ) (h : ℕ) → h ≤ length levels → take h levels ≡ levels_below levels h
+levels-taken levels zero b = refl
+levels-taken levels (suc h) b =
+    ap (λ (n : ℕ). take n levels) (sym (add-one h))
+    ∙ take-add h 1 levels ∙ ap (λ (x : List ℕ). take h levels ++ take 1 x) (drop-cons levels h 0 b)
+    ∙ ap (λ (x : List ℕ). x ++ get_or levels h 0 ∷ []) (levels-taken levels h (omega arith)) ∙ sym (map_more (λ i. get_or levels i 0) h)
+    ∙ ap (levels_below levels) (add-one h)
 
 -- ---- link_levels: i levels are linked
 
@@ -51,56 +61,54 @@ module _ {img₀ before values : List ℕ} {h : ℕ} {img : List ℕ} {i : ℕ} 
 
 -- ---- put_entries: i entries are written
 
-pub record Entering (img₀ : List ℕ) (page h : ℕ) (nexts img : List ℕ) (i : ℕ) : Type 0 where
-  pub most : i ≤ h
-  pub is : img ≡ write img₀ page 16 (gather word32 (levels_below nexts i))
+pub record Entering (img₀ : List ℕ) (page : ℕ) (nexts img : List ℕ) (i : ℕ) : Type 0 where
+  pub is : img ≡ write img₀ page 16 (gather word32 (take i nexts))
   pub long : length img ≡ length img₀
 
-pub entering-none : (img : List ℕ) (page h : ℕ) (nexts : List ℕ) → Entering img page h nexts img 0
+pub entering-none : (img : List ℕ) (page : ℕ) (nexts : List ℕ) → Entering img page nexts img 0
 unfolding write
-entering-none img page h nexts = record { most = omega arith; is = nothing page; long = refl }
+entering-none img page nexts = record { is = nothing page; long = refl }
   where
     nothing : (n : ℕ) → img ≡ write img n 16 []
     nothing zero = refl
     nothing (suc n) = refl
 
-length-entries : (nexts : List ℕ) (i : ℕ) → length (gather word32 (levels_below nexts i)) ≡ 4 * i
-length-entries nexts i = length-numbers32 (levels_below nexts i) ∙ ap (λ (n : ℕ). 4 * n) (length-levels (λ i. get_or nexts i 0) 0 i)
-
-module _ {img₀ : List ℕ} {page h : ℕ} {nexts img : List ℕ} {i : ℕ} (l : Entering img₀ page h nexts img i) where
-  pub entering-more : i < h → (out : List ℕ) → out ≡ write img page (16 + 4 * i) (word32 (get_or nexts i 0)) → Entering img₀ page h nexts out (i + 1)
-  entering-more b out e =
-      let done : List ℕ = levels_below nexts i in
-      let w : List ℕ = word32 (get_or nexts i 0) in
+module _ {img₀ : List ℕ} {page : ℕ} {nexts img : List ℕ} {i : ℕ} (l : Entering img₀ page nexts img i) where
+  pub entering-more : i < length nexts → (next : ℕ) → next ≡ get_or nexts i 0 → (out : List ℕ) → out ≡ write img page (16 + 4 * i) (word32 next)
+      → Entering img₀ page nexts out (i + 1)
+  entering-more b next n out e =
+      let done : List ℕ = take i nexts in
+      let many : length done ≡ i = length-take-le i nexts (omega arith) in
+      let more : take (i + 1) nexts ≡ done ++ next ∷ []
+      = take-add i 1 nexts ∙ ap (λ (x : List ℕ). done ++ take 1 x) (drop-cons nexts i 0 b) ∙ ap (λ (x : ℕ). done ++ x ∷ []) (sym n) in
       record {
-        most = omega arith;
-        is = e ∙ ap (λ (m : List ℕ). write m page (16 + 4 * i) w) l.is
-            ∙ write-append img₀ page 16 (16 + 4 * i) (gather word32 done) w (omega (arith, length-entries nexts i))
+        is = e ∙ ap (λ (m : List ℕ). write m page (16 + 4 * i) (word32 next)) l.is
+            ∙ write-append img₀ page 16 (16 + 4 * i) (gather word32 done) (word32 next) (omega (arith, length-numbers32 done))
             ∙ ap (write img₀ page 16)
-            (sym (ap (gather word32) (map_more (λ i. get_or nexts i 0) i) ∙ gather_append word32 done (get_or nexts i 0 ∷ [])
-            ∙ ap (λ (x : List ℕ). gather word32 done ++ x) (append-nil w)));
-        long = ap length e ∙ length-write img page (16 + 4 * i) w ∙ l.long;
+            (sym (ap (gather word32) more ∙ gather_append word32 done (next ∷ []) ∙ ap (λ (x : List ℕ). gather word32 done ++ x) (append-nil (word32 next))));
+        long = ap length e ∙ length-write img page (16 + 4 * i) (word32 next) ∙ l.long;
       }
 
-  pub entering-all : h ≤ i → img ≡ write img₀ page 16 (gather word32 (levels_below nexts h))
-  entering-all b = let e : i ≡ h = omega (arith, l.most) in l.is ∙ ap (λ (n : ℕ). write img₀ page 16 (gather word32 (levels_below nexts n))) e
+  pub entering-all : length nexts ≤ i → img ≡ write img₀ page 16 (gather word32 nexts)
+  entering-all b = l.is ∙ ap (λ (ns : List ℕ). write img₀ page 16 (gather word32 ns)) (take_all i nexts b)
 
 -- ---- Whole pages
 
 module _ (img : List ℕ) (page : ℕ) where
-  pub tower-page : (max h span : ℕ) (nexts : List ℕ) → h ≤ 252
+  pub tower-page : (max span : ℕ) (nexts : List ℕ) → length nexts ≤ 252
       → write
-      (write (write (write (write (write img page 0 tower_mark) page 8 (word16 max)) page 10 (word16 h)) page 12 (word32 span)) page 16 (gather word32 (levels_below nexts h)))
-      page (16 + 4 * h) (replicate (1008 - 4 * h) 0)
-      ≡ apply (whole_tower (tower_as page max h span (levels_below nexts h))) img
+      (write (write (write (write (write img page 0 tower_mark) page 8 (word16 max)) page 10 (word16 (length nexts))) page 12 (word32 span)) page 16 (gather word32 nexts))
+      page (16 + 4 * length nexts) (replicate (1008 - 4 * length nexts) 0)
+      ≡ apply (whole_tower (tower_as page max (length nexts) span nexts)) img
   unfolding whole_tower
-  tower-page max h span nexts few =
-      let ns : List ℕ = gather word32 (levels_below nexts h) in
+  tower-page max span nexts few =
+      let h : ℕ = length nexts in
+      let ns : List ℕ = gather word32 nexts in
       let l8 : length tower_mark ≡ 8 = unfold tower_mark in refl in
       let l10 : length (tower_mark ++ word16 max) ≡ 10 = rw (length-append, l8, length-word16 max) in
       let l12 : length ((tower_mark ++ word16 max) ++ word16 h) ≡ 12 = rw (length-append, l10, length-word16 h) in
       let l16 : length (((tower_mark ++ word16 max) ++ word16 h) ++ word32 span) ≡ 16 = rw (length-append, l12, length-word32 span) in
-      let all : length ((((tower_mark ++ word16 max) ++ word16 h) ++ word32 span) ++ ns) ≡ 16 + 4 * h = rw (length-append, l16, length-entries nexts h) in
+      let all : length ((((tower_mark ++ word16 max) ++ word16 h) ++ word32 span) ++ ns) ≡ 16 + 4 * h = rw (length-append, l16, length-numbers32 nexts) in
       let b : (((tower_mark ++ word16 max) ++ word16 h) ++ word32 span) ++ ns ≡ tower_mark ++ (word16 max ++ (word16 h ++ (word32 span ++ ns))) = simp append_assoc in
       rw (
         write-append img page 0 8 tower_mark (word16 max) (omega arith),
@@ -126,7 +134,7 @@ module _ (img : List ℕ) (page : ℕ) where
       (write (write (write (write img page 0 skip_mark) page 8 (word32 first)) page 12 (word32 head)) page 16 (word32 size ++ (word32 spans ++ word32 levels)))
       page 28 (word16 span_size))
       page 30 (replicate 994 0)
-      ≡ apply (whole_skip_list (skip_list_as page first head size spans levels span_size)) img
+      ≡ apply (whole_skip_list (record { page = page; first = first; level = head; size = size; spans = spans; levels = levels; span_size = span_size })) img
   unfolding whole_skip_list counts
   skip-page first head size spans levels span_size =
       let cs : List ℕ = word32 size ++ (word32 spans ++ word32 levels) in

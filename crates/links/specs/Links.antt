@@ -3,6 +3,7 @@ use Rattle.std.specs.Prelude.{ℕ, ◌+◌, ◌*◌, ◌≤◌, ◌<◌, List, m
 use Rattle.blockfile.specs.Bytes.{Write, on, word32, from}
 use Rattle.blockfile.specs.Fields.{SkipList, LinkedTower}
 use Rattle.entries.specs.Places.{IsPage}
+use Rattle.links.specs.declared.write.NewSkipList.{NewSkipList}
 
 -- at each level below h, the entry on the page in `before` becomes the number in `values`
 abbrev pub link_writes : (before values : List ℕ) (h : ℕ) → List Write
@@ -22,6 +23,6 @@ levels_below levels h = map (λ i. get_or levels i 0) (from 0 h)
 abbrev pub tower_as : (page max height span : ℕ) (nexts : List ℕ) → LinkedTower
 tower_as page max height span nexts = record { tower = record { page = page; max_height = max; height = height }; span_page = span; nexts = nexts }
 
-abbrev pub skip_list_as : (page first head size spans levels span_size : ℕ) → SkipList
-skip_list_as page first head size spans levels span_size =
-    record { page = page; first = first; level = head; size = size; spans = spans; levels = levels; span_size = span_size }
+abbrev pub skip_list_as : NewSkipList → SkipList
+skip_list_as x =
+    record { page = x.page; first = x.first; level = x.head; size = x.counts.size; spans = x.counts.spans; levels = x.counts.levels; span_size = x.span_size }

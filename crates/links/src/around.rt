@@ -1,5 +1,5 @@
 // The towers around a place of a table: for each level the last tower before it, and the next one from there on.
-ghost use Rattle.std.specs.Prelude.{◌+◌, ◌*◌, ◌≤◌, ◌≡◌, length, get_or, replicate};
+ghost use Rattle.std.specs.Prelude.{◌+◌, ◌*◌, ◌≤◌, ◌≡◌, get_or, replicate};
 ghost use Rattle.blockfile.specs.Bytes.{pg, be32};
 ghost use Rattle.pages.specs.Places.{Inside};
 ghost use Rattle.search.specs.Paths.{Filled};
@@ -7,6 +7,7 @@ ghost use Rattle.links.specs.Levels.{Pages, page_or_head, HasBefore, AfterIn, Pr
 
 use pages::read::{get16, get32};
 
+// The page of a path, or the head where it has none. A path has 0 for none, as the entries have on the image that it is read from.
 fn or_head(head: usize, page: usize) -> usize
     ensures { result ≡ page_or_head head page }
 {
@@ -14,25 +15,28 @@ fn or_head(head: usize, page: usize) -> usize
 }
 
 // For each level the tower of the path; the head from the path's height on, where it has 0.
-pub fn towers_before(path: &[u16; 252], head: usize, before: &mut [usize; 252])
-    requires { Pages path.now × (length before.old ≡ 252) }
-    ensures { Filled before.old 252 (λ l. page_or_head head (get_or path.now l 0)) before.new }
+pub fn towers_before(path: &[u16; 252], head: usize) -> [usize; 252]
+    requires { Pages path.now }
+    ensures { Filled (replicate 252 0) 252 (λ l. page_or_head head (get_or path.now l 0)) result }
 {
+    let mut before = [0usize; 252];
     for i in 0..252 {
         before[i] = or_head(head, path[i] as usize);
     }
+    before
 }
 
-// For each level the page of the next tower after the one in `before`; 0 for none, as all of `after` is before: no tower is higher than
-// the head.
-pub fn towers_after(image: &[u8], root: usize, before: &[usize; 252], after: &mut [usize; 252])
-    requires { HasBefore image.now root before.now × (after.old ≡ replicate 252 0) }
-    ensures { AfterIn image.now root before.now after.new }
+// For each level the page of the next tower after the one in `before`; 0 for none, and above the head: no tower is higher than it.
+pub fn towers_after(image: &[u8], root: usize, before: &[usize; 252]) -> [usize; 252]
+    requires { HasBefore image.now root before.now }
+    ensures { AfterIn image.now root before.now result }
 {
     let height = get16(image, get32(image, root, 12), 10);
+    let mut after = [0usize; 252];
     for i in 0..height {
         after[i] = get32(image, before[i], 16 + 4 * i);
     }
+    after
 }
 
 // The page of the tower of the span on `page`, if it has one, where the path has the last towers before that span: the next tower is
@@ -55,12 +59,14 @@ pub fn tower_of(image: &[u8], path: &[u16; 252], page: usize) -> Option<usize>
     Some(next)
 }
 
-// The first `height` entries of the tower on the page.
-pub fn get_entries(image: &[u8], page: usize, height: usize, nexts: &mut [usize; 252])
-    requires { Inside image.now page 0 1024 × (height ≤ 252) × (length nexts.old ≡ 252) }
-    ensures { Filled nexts.old height (λ l. be32 (pg image.now page) (16 + 4 * l)) nexts.new }
+// The first `height` entries of the tower on the page, and 0 above them.
+pub fn get_entries(image: &[u8], page: usize, height: usize) -> [usize; 252]
+    requires { Inside image.now page 0 1024 × (height ≤ 252) }
+    ensures { Filled (replicate 252 0) height (λ l. be32 (pg image.now page) (16 + 4 * l)) result }
 {
+    let mut nexts = [0usize; 252];
     for i in 0..height {
         nexts[i] = get32(image, page, 16 + 4 * i);
     }
+    nexts
 }

@@ -28,14 +28,13 @@ fn leave(image: &mut [u8], scratch: &mut [u8], root: usize, page: usize, index: 
         drops: true,
         adds: false,
     };
-    let none = [0u8; 0];
-    let new = NewEntry {
-        key: &none,
-        value: &none,
+    let none = NewEntry {
+        key: &[],
+        value: &[],
     };
     let base = image.len() / 1024;
     let plan = make_plan(image, root, page, change, 0, 0, base);
-    carry_flat(image, scratch, plan, change, new)
+    carry_flat(image, scratch, plan, change, none)
 }
 
 // Removes the key from the table; `free` pages are free. Answers how many are free after it; if the key is not there it is none, and

@@ -18,16 +18,15 @@ pub fn find_tower(image: &[u8], path: &[u16; 252], page: usize) -> OwnTower
     requires { Precedes image.now page path.now }
     ensures { FoundTower image.now page path.now result }
 {
-    let mut after = [0usize; 252];
     let Some(tower) = tower_of(image, path, page) else {
         return OwnTower {
             page: None,
             height: 0,
-            after,
+            after: [0; 252],
         };
     };
     let height = get16(image, tower, 10);
-    get_entries(image, tower, height, &mut after);
+    let after = get_entries(image, tower, height);
     OwnTower {
         page: Some(tower),
         height,

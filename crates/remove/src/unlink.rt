@@ -7,7 +7,7 @@ use crate::gone::give_gone;
 use crate::tower::{OwnTower, find_tower};
 use edit::fields::{Links, SkipList, read_list};
 use links::around::towers_before;
-use links::write::{link_levels, put_counts};
+use links::write::{Counts, link_levels, put_counts};
 use pages::write::put32;
 
 // A span that goes, with all that is read before anything is written: its table's skip-list page, its own page, and what these say.
@@ -35,10 +35,12 @@ fn lower_counts(image: &mut [u8], going: Going, tower: Option<usize>)
     requires { CountsReady image.old going tower }
     ensures { image.new ≡ apply (lowered going tower) image.old }
 {
-    let size = going.list.size - going.links.size;
-    let spans = going.list.spans - 1;
-    let levels = going.list.levels - usize::from(tower.is_some());
-    put_counts(image, going.root, size, spans, levels)
+    let counts = Counts {
+        size: going.list.size - going.links.size,
+        spans: going.list.spans - 1,
+        levels: going.list.levels - usize::from(tower.is_some()),
+    };
+    put_counts(image, going.root, counts)
 }
 
 // Gives the pages back and writes the links around them. Answers how many pages.
@@ -46,8 +48,7 @@ fn let_go(image: &mut [u8], going: Going, tower: OwnTower, path: &[u16; 252]) ->
     requires { GoingReady image.old going tower path.now }
     ensures { LetGo image.old going tower path.now result image.new }
 {
-    let mut before = [0usize; 252];
-    towers_before(path, going.list.head, &mut before);
+    let before = towers_before(path, going.list.head);
     let after = tower.after;
     let given = give_gone(image, going.links.first, going.page, tower.page);
     link_spans(image, going.links.prev, going.links.next);

@@ -4,7 +4,7 @@ use native.Mathlib.Omega.{arith}
 use native.Mathlib.Decide.{dec_lt}
 use mathlib.Core.Path.{◌≡◌, refl, ap, sym, subst}
 use mathlib.Core.Logic.{by_cases}
-use mathlib.Core.Bool.{true, false}
+use mathlib.Core.Bool.{true}
 use mathlib.Core.List.{List, ◌∷◌}
 use lib.ListN.{drop}
 use Rattle.std.specs.Int.{from_bool}
@@ -43,17 +43,6 @@ start-stands x c f =
 -- ---- reach
 
 module _ {img : List ℕ} {c : Change} {es : List Entry} {u : Cursor} (s : Stands img c es u) where
-  -- nothing gives way here
-  pub reach_here : (u.index ≡ c.index → c.drops ≡ false) → Onward img c es u u.at
-  reach_here n =
-      record {
-        old = s.old;
-        before = λ h. s.before (omega arith);
-        here = λ h. let a : s.old ≡ u.index = s.before (omega arith) in let b : from_bool c.drops ≡ 0 = ap from_bool (n h) in omega arith;
-        behind = s.behind;
-        along = s.along;
-      }
-
   module _ (h : u.index ≡ c.index) (d : c.drops ≡ true) where
     old-is : s.old ≡ u.index
     old-is = s.before (omega arith)

@@ -18,7 +18,7 @@ pub struct Change {
     pub adds: bool,
 }
 
-// The entry that comes.
+// The entry that comes. It stands beside the change and not in it: measuring takes the change alone, with the entry's length.
 #[derive(Clone, Copy)]
 pub struct NewEntry<'a> {
     pub key: &'a [u8],
@@ -107,13 +107,10 @@ fn reach(image: &[u8], cursor: Cursor, change: Change) -> Place
     ensures { Reached image.now change cursor result }
 {
     let at = cursor.at;
-    if cursor.index != change.index {
-        return at;
+    if change.drops && cursor.index == change.index {
+        return pass(image, at);
     }
-    if !change.drops {
-        return at;
-    }
-    pass(image, at)
+    at
 }
 
 // Whether the entry at the cursor is the one that comes.

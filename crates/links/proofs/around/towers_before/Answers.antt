@@ -4,7 +4,7 @@ use Rattle.search.proofs.Fills.{fill_none, fill_more}
 use Rattle.links.proofs.around.towers_before.Goals as goal
 
 pub overflow_cast-path : goal.overflow_cast-path
-overflow_cast-path c = omega (arith, c.requires.0.small c.loop-i.i)
+overflow_cast-path c = omega (arith, c.requires.small c.loop-i.i)
 
 pub loop-i-preserved : goal.loop-i-preserved
 loop-i-preserved c =

@@ -3,4 +3,6 @@ use Rattle.links.proofs.Written.{skip-page}
 use Rattle.links.proofs.write.put_skip_list.Goals as goal
 
 pub returns : goal.returns
-returns c = cc (skip-page c.args.image.now c.args.page c.args.first c.args.head c.args.size c.args.spans c.args.levels c.args.span_size)
+returns c =
+    let x = c.args.list in
+    cc (skip-page c.args.image.now x.page x.first x.head x.counts.size x.counts.spans x.counts.levels x.span_size)

@@ -3,4 +3,4 @@ use Rattle.links.proofs.Written.{tower-page}
 use Rattle.links.proofs.write.put_tower.Goals as goal
 
 pub returns : goal.returns
-returns c = cc (tower-page c.args.image.now c.args.page c.args.max c.args.height c.args.span c.args.nexts.now c.requires.1)
+returns c = cc (tower-page c.args.image.now c.args.page c.args.max c.args.span c.args.nexts.now c.requires.1)

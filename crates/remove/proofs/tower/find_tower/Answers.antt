@@ -13,14 +13,13 @@ get16-height-requires c =
     let p = c.requires in
     own-inside p.reading p.place p.is c.tower_of.ensures _ c.in-Some.is _ _ (omega arith)
 
-pub get_entries-requires : goal.get_entries-requires
-get_entries-requires c =
+pub get_entries-after-requires : goal.get_entries-after-requires
+get_entries-after-requires c =
     let p = c.requires in (
       own-inside p.reading p.place p.is c.tower_of.ensures _ c.in-Some.is _ _ (omega arith),
       own-low p.reading p.place p.is c.tower_of.ensures _ c.in-Some.is c.get16-height.ensures.is,
-      length-replicate {A = ℕ} 252 0,
     )
 
 pub returns : goal.returns
 returns c =
-    record { is = λ root t k a. tower-some t k a c.tower_of.ensures _ c.in-Some.is c.get16-height.ensures.is (length-replicate {A = ℕ} 252 0) c.get_entries.ensures }
+    record { is = λ root t k a. tower-some t k a c.tower_of.ensures _ c.in-Some.is c.get16-height.ensures.is (length-replicate {A = ℕ} 252 0) c.get_entries-after.ensures }
