@@ -23,19 +23,13 @@ shape_of-scratch-then-not-claim c = omega arith
 pub returns-then-not-claim : goal.returns-then-not-claim
 returns-then-not-claim c =
     let v = c.loop-i.invariant in
-    listing-no _ _ _ _ _ _ v c.loop-i-test.true _ c.get32-listed.ensures.is _ _ (c.claim.ensures _ v.lent)
+    listing-no _ _ _ _ _ _ v (omega arith) _ c.get32-listed.ensures.is _ _ (c.claim.ensures _ v.lent)
     c.if-not-claim.true
-
-pub overflow_add-i-in-loop-i : goal.overflow_add-i-in-loop-i
-overflow_add-i-in-loop-i c = omega arith
-
-pub loop-i-smaller : goal.loop-i-smaller
-loop-i-smaller c = omega arith
 
 pub loop-i-preserved : goal.loop-i-preserved
 loop-i-preserved c =
     let v = c.loop-i.invariant in
-    listing-next _ _ _ _ _ _ v c.loop-i-test.true _ c.get32-listed.ensures.is _ _ (c.claim.ensures _ v.lent)
+    listing-next _ _ _ _ _ _ v (omega arith) _ c.get32-listed.ensures.is _ _ (c.claim.ensures _ v.lent)
     c.if-not-claim.false
 
 pub shape_of-scratch : goal.shape_of-scratch

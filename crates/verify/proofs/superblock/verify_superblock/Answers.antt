@@ -32,11 +32,6 @@ returns-then-size-lt2 c =
     super-size _ _ _ _ (c.claim.ensures _ c.requires) c.if-not-claim.false _ (omega (arith, c.requires.room.size)) _ c.is_fixed.ensures
     (λ w. omega (arith, c.get16-size.ensures.is))
 
-pub returns-then-size-gt128 : goal.returns-then-size-gt128
-returns-then-size-gt128 c =
-    super-size _ _ _ _ (c.claim.ensures _ c.requires) c.if-not-claim.false _ (omega (arith, c.requires.room.size)) _ c.is_fixed.ensures
-    (λ w. omega (arith, c.get16-size.ensures.is))
-
 pub get32-requires : goal.get32-requires
 get32-requires c = (claim-inside (c.claim.ensures _ c.requires) c.if-not-claim.false c.requires (omega arith))
 

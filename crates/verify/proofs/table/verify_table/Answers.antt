@@ -15,9 +15,6 @@ get16-most-requires c = (claim-inside (c.claim.ensures _ c.requires) c.if-not-cl
 pub returns-then-most-lt2 : goal.returns-then-most-lt2
 returns-then-most-lt2 c = table-size _ _ _ _ _ _ (c.claim.ensures _ c.requires) c.if-not-claim.false (λ w. omega (arith, c.get16-most.ensures.is))
 
-pub returns-then-most-gt128 : goal.returns-then-most-gt128
-returns-then-most-gt128 c = table-size _ _ _ _ _ _ (c.claim.ensures _ c.requires) c.if-not-claim.false (λ w. omega (arith, c.get16-most.ensures.is))
-
 pub verify_columns-requires : goal.verify_columns-requires
 verify_columns-requires c = (claim-lent (c.claim.ensures _ c.requires) c.if-not-claim.false c.requires, (claim-inside (c.claim.ensures _ c.requires) c.if-not-claim.false c.requires (omega arith)), omega arith)
 
