@@ -134,9 +134,9 @@ module _ (img : List ℕ) (at : Place) (n v : ℕ) (low : 1 ≤ n) where
             (λ other. rw (e, ne_eqb v 4 other));
       }
 
-  pub name-printed : v ≡ 4 → n ≤ 255 → (r : Bool) → Printed img at n r → NameAt img at n v r
+  pub name_printed : v ≡ 4 → n ≤ 255 → (r : Bool) → Printed img at n r → NameAt img at n v r
   unfolding name_rule
-  name-printed four h r p =
+  name_printed four h r p =
       record {
         is = λ k a.
             let some : 1 ≤ length k = omega (arith, key-length a) in

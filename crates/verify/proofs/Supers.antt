@@ -5,6 +5,7 @@ use mathlib.Core.Path.{◌≡◌, refl, sym, ◌∙◌, subst}
 use mathlib.Core.Bool.{Bool, true, false, true≢false}
 use mathlib.Core.List.{List, []}
 use lib.ListN.{get_or}
+use lib.Dec.{lit<}
 use Rattle.std.proofs.Common.{Some, None}
 use Rattle.blockfile.specs.Bytes.{pg, be16, be32, be64}
 use Rattle.blockfile.specs.Marks.{super_mark}
@@ -21,32 +22,35 @@ use Rattle.verify.specs.Superblock.{Fixed, SuperFound}
 
 -- ---- The fields that are the same in every image
 
-module _ (p : ℕ) (b : List ℕ) (few : p ≤ 4096) where
-  -- the fields as they are read
-  pub record Numbers (version high low size : ℕ) : Type 0 where
-    pub is_version : version ≡ 0x0102
-    pub is_high : high ≡ 0
-    pub is_low : low ≡ 1024 * p
-    pub is_size : size ≡ 1024
+-- as they are read
+pub record Numbers (p version high low size : ℕ) : Type 0 where
+  pub is_version : version ≡ 0x0102
+  pub is_high : high ≡ 0
+  pub is_low : low ≡ 1024 * p
+  pub is_size : size ≡ 1024
 
-  pub numbers_fixed : get_or b 7 0 < 256 → {version high low size : ℕ} → version ≡ be16 b 6 → high ≡ be32 b 8 → low ≡ be32 b 12 → size ≡ be32 b 24
-      → {r : Bool} → Decides (Numbers version high low size) r → Decides (Fixed p b) r
-  unfolding be16 be64
-  numbers_fixed small v h l s d =
-      record {
-        sound = λ e. let x = d.sound e in
-            record { major = omega (arith, v, x.is_version); minor = omega (arith, v, x.is_version); file_length = omega (arith, h, l, x.is_high, x.is_low); page_size = sym s ∙ x.is_size };
-        complete = λ f. d.complete (record {
-          is_version = omega (arith, v, f.major, f.minor);
-          is_high = omega (arith, h, f.file_length);
-          is_low = omega (arith, l, f.file_length);
-          is_size = s ∙ f.page_size;
-        });
-      }
-
--- a byte of page 1
-pub byte-below : (img : List ℕ) → ((i : ℕ) → get_or img i 0 < 256) → (o : ℕ) → o < 1024 → get_or (pg img 1) o 0 < 256
-byte-below img bytes o h = omega (arith, pg-at img 1 o (omega arith) h, bytes (1024 * (1 - 1) + o))
+pub numbers_fixed : {p version high low size : ℕ} (img : List ℕ) {r : Bool} → p ≤ 4096 → ((i : ℕ) → get_or img i 0 < 256)
+    → version ≡ be16 (pg img 1) 6 → high ≡ be32 (pg img 1) 8 → low ≡ be32 (pg img 1) 12 → size ≡ be32 (pg img 1) 24
+    → Decides (Numbers p version high low size) r → Decides (Fixed p (pg img 1)) r
+unfolding be16 be64
+numbers_fixed img few bytes v h l s d =
+    let small : get_or (pg img 1) 7 0 < 256 = omega (arith, pg-at img 1 7 (omega arith) (lit< tt), bytes (1024 * (1 - 1) + 7)) in
+    record {
+      sound = λ e.
+          let x = d.sound e in
+          record {
+            major = omega (arith, v, x.is_version);
+            minor = omega (arith, v, x.is_version);
+            file_length = omega (arith, h, l, x.is_high, x.is_low);
+            page_size = sym s ∙ x.is_size;
+          };
+      complete = λ f. d.complete (record {
+        is_version = omega (arith, v, f.major, f.minor);
+        is_high = omega (arith, h, f.file_length);
+        is_low = omega (arith, l, f.file_length);
+        is_size = s ∙ f.page_size;
+      });
+    }
 
 -- ---- Page 1
 

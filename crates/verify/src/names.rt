@@ -16,6 +16,7 @@ use reader::place_after;
 use search::table::{METAINDEX, TableRef};
 
 // Whether a key of the metaindex is a name with a four-byte value.
+#[tactic(auto, using(crate::proofs::Named::name_not, crate::proofs::Named::name_printed))]
 fn is_named(image: &[u8], at: Place, key: usize, value: usize) -> bool
     requires { Key image.now at key × (1 ≤ key) × (key ≤ 65535) }
     ensures { NameAt image.now at key value result }

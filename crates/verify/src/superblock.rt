@@ -13,6 +13,7 @@ use pages::mark::SUPERBLOCK;
 use pages::read::{get16, get32};
 
 // Whether the version is 1.2, the file length that of the pages, and the page size 1024.
+#[tactic(auto, using(crate::proofs::Supers::numbers_fixed))]
 fn is_fixed(image: &[u8], pages: usize) -> bool
     requires { (length image.now ≡ 1024 * pages) × Within 1 4096 pages }
     ensures { Decides (Fixed pages (pg image.now 1)) result }
