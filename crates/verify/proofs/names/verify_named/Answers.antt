@@ -1,15 +1,6 @@
 use native.Mathlib.Omega.{arith}
-use mathlib.Core.Path.{◌∙◌}
-use Rattle.verify.proofs.Named.{naming-start, naming-end, naming-lengths, naming-key, naming-past, naming-name, naming-unnamed, naming-value, naming-no, naming-next, table-fewer}
+use Rattle.verify.proofs.Named.{naming-end, naming-lengths, naming-key, naming-past, naming-name, naming-unnamed, naming-value, naming-no, naming-next, table-fewer}
 use Rattle.verify.proofs.names.verify_named.Goals as goal
-
-pub get16-size-requires : goal.get16-size-requires
-get16-size-requires c =
-    let h = c.requires.1.1 in
-    record { small = h.small; low = h.inside.low; high = h.inside.high; fits = omega arith }
-
-pub loop-init : goal.loop-init
-loop-init c es h = naming-start _ _ _ _ c.requires.0 es h _ (omega (arith, c.get16-size.ensures.is))
 
 pub lengths-g-requires : goal.lengths-g-requires
 lengths-g-requires c = naming-lengths (c.loop.invariant c.requires.1.0 c.requires.1.1) (λ z. omega arith)
@@ -19,9 +10,6 @@ is_named-requires c =
     let g = c.lengths-g.ensures in
     let n = naming-name (c.loop.invariant c.requires.1.0 c.requires.1.1) (λ z. omega arith) _ g in
     (n.0, n.1, omega (arith, g.key_below))
-
-pub shape_of-scratch-then-not-is_named : goal.shape_of-scratch-then-not-is_named
-shape_of-scratch-then-not-is_named c = (c.loop.invariant c.requires.1.0 c.requires.1.1).long
 
 pub returns-then-not-is_named : goal.returns-then-not-is_named
 returns-then-not-is_named c es h = naming-unnamed (c.loop.invariant es h) (λ z. omega arith) _ c.lengths-g.ensures _ c.is_named.ensures c.if-not-is_named.true
@@ -35,12 +23,6 @@ number-root-requires c = naming-value (c.loop.invariant c.requires.1.0 c.require
 pub sort_at-sort-requires : goal.sort_at-sort-requires
 sort_at-sort-requires c = naming-name (c.loop.invariant c.requires.1.0 c.requires.1.1) (λ z. omega arith) _ c.lengths-g.ensures
 
-pub verify_table-requires : goal.verify_table-requires
-verify_table-requires c = (c.loop.invariant c.requires.1.0 c.requires.1.1).lent
-
-pub shape_of-scratch-in_err-n : goal.shape_of-scratch-in_err-n
-shape_of-scratch-in_err-n c = c.verify_table.auto.scratch ∙ (c.loop.invariant c.requires.1.0 c.requires.1.1).long
-
 pub returns-in_err-n : goal.returns-in_err-n
 returns-in_err-n c es h =
     rw c.from_residual.ensures (naming-no (c.loop.invariant es h) (λ z. omega arith) _ c.lengths-g.ensures _ c.is_named.ensures c.if-not-is_named.false _ c.place_after-value.ensures (λ i. let b = c.type_inv.image i in omega arith)
@@ -49,11 +31,6 @@ returns-in_err-n c es h =
 pub overflow_add-keys : goal.overflow_add-keys
 overflow_add-keys c = omega (arith, table-fewer _ _ _ _ _ (c.verify_table.ensures.sound _ c.in_ok-n.was), (c.loop.invariant c.requires.1.0 c.requires.1.1).few, c.requires.2)
 
-pub overflow_add-g : goal.overflow_add-g
-overflow_add-g c =
-    let g = c.lengths-g.ensures in
-    omega (arith, g.key_below, g.value_below)
-
 pub place_after-at-requires : goal.place_after-at-requires
 place_after-at-requires c = naming-past (c.loop.invariant c.requires.1.0 c.requires.1.1) (λ z. omega arith) _ c.lengths-g.ensures
 
@@ -61,9 +38,6 @@ pub loop-preserved : goal.loop-preserved
 loop-preserved c es h =
     naming-next (c.loop.invariant es h) (λ z. omega arith) _ c.lengths-g.ensures _ c.is_named.ensures c.if-not-is_named.false _ c.place_after-value.ensures (λ i. let b = c.type_inv.image i in omega arith)
     _ c.number-root.ensures _ c.sort_at-sort.ensures _ _ c.verify_table.ensures _ c.in_ok-n.was _ c.place_after-at.ensures (omega arith)
-
-pub shape_of-scratch : goal.shape_of-scratch
-shape_of-scratch c = (c.loop.invariant _ c.requires.1.1).long
 
 pub returns : goal.returns
 returns c es h = naming-end (c.loop.invariant es h) (omega arith)

@@ -1,20 +1,7 @@
 use native.Mathlib.Omega.{arith}
-use mathlib.Core.Path.{◌∙◌}
 use Rattle.walks.proofs.Founds.{unclaimed-most}
-use Rattle.verify.proofs.Named.{meta-inside, tabling-start, tabling-end, tabling-names, tabling-no, tabling-next}
+use Rattle.verify.proofs.Named.{tabling-start, tabling-end, tabling-names, tabling-no, tabling-next}
 use Rattle.verify.proofs.names.verify_tables.Goals as goal
-
-pub get32-page-requires : goal.get32-page-requires
-get32-page-requires c =
-    let m = c.requires.1 in
-    let i = meta-inside _ c.args.scratch.now m.0 m.1 in
-    record { small = m.1.small; low = omega arith; high = i.high; fits = omega arith }
-
-pub get32-spans-requires : goal.get32-spans-requires
-get32-spans-requires c =
-    let m = c.requires.1 in
-    let i = meta-inside _ c.args.scratch.now m.0 m.1 in
-    record { small = m.1.small; low = omega arith; high = i.high; fits = omega arith }
 
 pub loop-init : goal.loop-init
 loop-init c meta h = tabling-start _ _ meta h c.requires.0 _ _ c.get32-page.ensures.is (omega (arith, c.get32-spans.ensures.is))
@@ -28,9 +15,6 @@ verify_named-requires c =
       omega (arith, t.few, room.whole, room.most, unclaimed-most c.args.scratch.now),
     )
 
-pub shape_of-scratch-in_err-keys : goal.shape_of-scratch-in_err-keys
-shape_of-scratch-in_err-keys c = c.verify_named.auto.scratch ∙ (c.loop.invariant c.requires.1.0 c.requires.1.1).long
-
 pub returns-in_err-keys : goal.returns-in_err-keys
 returns-in_err-keys c meta h = rw c.from_residual.ensures (tabling-no (c.loop.invariant meta h) (λ z. omega arith) _ _ c.verify_named.ensures c.in_err-keys.was)
 
@@ -43,9 +27,6 @@ pub loop-preserved : goal.loop-preserved
 loop-preserved c meta h =
     tabling-next (c.loop.invariant meta h) (λ z. omega arith) _ _ c.verify_named.ensures _ c.in_ok-keys.was c.verify_named.auto.scratch _
     c.get32-page-in-loop.ensures.is (omega arith)
-
-pub shape_of-scratch : goal.shape_of-scratch
-shape_of-scratch c = (c.loop.invariant _ c.requires.1.1).long
 
 pub returns : goal.returns
 returns c meta h = tabling-end (c.loop.invariant meta h) (omega arith)
