@@ -1,6 +1,8 @@
 -- The tables that the metaindex names, found one after another.
 use Prim.Native.Nat.{ℕ, suc, ◌+◌, ◌*◌, ◌-◌, ◌/◌, ◌%◌, ◌≤◌, ◌<◌}
 use native.Mathlib.Omega.{arith}
+use native.Mathlib.Decide.{ℕ_discrete}
+use mathlib.Core.Logic.{by_cases}
 use mathlib.Core.Path.{◌≡◌, refl, ap, ap₂, sym, ◌∙◌, subst}
 use mathlib.Core.Bool.{Bool, true, false, true≢false}
 use mathlib.Core.List.{List, [], ◌∷◌, ◌++◌, map, map-append, head-eq_of_cons-eq, tail-eq_of_cons-eq, nil≢cons, cons≢nil}
@@ -121,22 +123,20 @@ key-some k h = (within-is 1 65535 (length k) h).0
 -- ---- The test of a name
 
 module _ (img : List ℕ) (at : Place) (n v : ℕ) (low : 1 ≤ n) where
-  pub name-not-four : (v ≡ 4 → ⊥) → NameAt img at n v false
-  name-not-four d = record { is = λ k a. rw (ne_eqb v 4 d) }
-
-  pub name-long : v ≡ 4 → 255 < n → NameAt img at n v false
+  pub name_not : {r : Bool} → r ≡ false → (v ≡ 4 → 255 < n) → NameAt img at n v r
   unfolding name_rule
-  name-long four h =
+  name_not e h =
       record {
         is = λ k a.
             let some : 1 ≤ length k = omega (arith, key-length a) in
-            let w : 255 < length k = omega (arith, key-length a) in
-            rw (eq-eqb v 4 four, le-leb 1 (length k) some, lt-leb (length k) 255 w);
+            by_cases (ℕ_discrete v 4)
+            (λ four. let w : 255 < length k = omega (arith, key-length a, h four) in rw (e, eq-eqb v 4 four, le-leb 1 (length k) some, lt-leb (length k) 255 w))
+            (λ other. rw (e, ne_eqb v 4 other));
       }
 
-  pub name-printed : v ≡ 4 → n ≤ 255 → (r : Bool) → Printed img at n r → NameAt img at n v r
+  pub name_printed : v ≡ 4 → n ≤ 255 → (r : Bool) → Printed img at n r → NameAt img at n v r
   unfolding name_rule
-  name-printed four h r p =
+  name_printed four h r p =
       record {
         is = λ k a.
             let some : 1 ≤ length k = omega (arith, key-length a) in
@@ -350,8 +350,8 @@ module _ {img scr₀ : List ℕ} {es : List Entry} {before : ℕ} {scr : List �
                   finds-none turn.same
                   (name-no img scr v.lent turn.first turn.more keys root parts.1 word small sort sorted r s f e)
 
-              pub naming-next : (k : ℕ) → r ≡ Some k → (q : Place) → Moved img g.after (g.key + g.value) q → Naming img scr₀ es before s q (left - 1) (keys + k)
-              naming-next k e q on =
+              pub naming-next : (k : ℕ) → r ≡ Some k → (q : Place) → Moved img g.after (g.key + g.value) q → {other : ℕ} → other ≡ left - 1 → Naming img scr₀ es before s q other (keys + k)
+              naming-next k e q on less =
                   let b : (k + 128 * unclaimed s ≤ 128 * unclaimed scr) × (length s ≡ length scr) = table-fewer img scr root k s (f.sound k e) in
                   record {
                     rest = turn.more;
@@ -556,8 +556,8 @@ module _ {img scr₀ : List ℕ} {meta : Table} {scr : List ℕ} {page left keys
       tabling-no e =
           finds-none ahead.same (names-no img scr ahead.first.entries (entries_in ahead.more) keys r s here e)
 
-      pub tabling-next : (k : ℕ) → r ≡ Some k → length s ≡ length scr → (n : ℕ) → n ≡ be32 (pg img page) 12 → Tabling img scr₀ meta s n (left - 1) k
-      tabling-next k e l n q =
+      pub tabling-next : (k : ℕ) → r ≡ Some k → length s ≡ length scr → (n : ℕ) → n ≡ be32 (pg img page) 12 → {other : ℕ} → other ≡ left - 1 → Tabling img scr₀ meta s n other k
+      tabling-next k e l n q less =
           record {
             small = v.small;
             prev = ahead.first.page;

@@ -3,48 +3,54 @@ use Prim.Native.Nat.{ℕ, ◌+◌, ◌*◌, ◌-◌, ◌≤◌, ◌<◌}
 use native.Mathlib.Omega.{arith}
 use mathlib.Core.Path.{◌≡◌, refl, sym, ◌∙◌, subst}
 use mathlib.Core.Bool.{Bool, true, false, true≢false}
-use mathlib.Core.Logic.{inl, inr}
 use mathlib.Core.List.{List, []}
 use lib.ListN.{get_or}
+use lib.Dec.{lit<}
 use Rattle.std.proofs.Common.{Some, None}
 use Rattle.blockfile.specs.Bytes.{pg, be16, be32, be64}
 use Rattle.blockfile.specs.Marks.{super_mark}
 use Rattle.blockfile.specs.Order.{Within}
 use Rattle.blockfile.specs.Fields.{IsSuperblock}
-use Rattle.blockfile.specs.WellFormed.{superblock, KeptCount}
+use Rattle.blockfile.specs.WellFormed.{superblock}
 use Rattle.laws.proofs.Pages.{pg-at}
 use Rattle.heads.specs.Claims.{pages_in, claimable, claimed, Claimed}
 use Rattle.pages.proofs.Begins.{begins-take, take_begins}
 use Rattle.walks.specs.Found.{Decides, FindsAt}
-use Rattle.walks.proofs.Founds.{decides-true, decides-false, same_start, finds-none, finds-done, found_none, claimable-open}
+use Rattle.walks.proofs.Founds.{same_start, finds-none, finds-done, found_none, claimable-open}
 use Rattle.walks.proofs.Pieces.{Single, found-claimable, found-rest, found-cons, claim-done, claim-not}
 use Rattle.verify.specs.Superblock.{Fixed, SuperFound}
 
 -- ---- The fields that are the same in every image
 
-module _ (p : ℕ) (b : List ℕ) (few : p ≤ 4096) where
-  pub version-not : (be16 b 6 ≡ 0x0102 → ⊥) → Decides (Fixed p b) false
-  unfolding be16
-  version-not n = decides-false (λ f. n (omega (arith, f.major, f.minor)))
+-- as they are read
+pub record Numbers (p version high low size : ℕ) : Type 0 where
+  pub is_version : version ≡ 0x0102
+  pub is_high : high ≡ 0
+  pub is_low : low ≡ 1024 * p
+  pub is_size : size ≡ 1024
 
-  pub high-not : (be32 b 8 ≡ 0 → ⊥) → Decides (Fixed p b) false
-  unfolding be64
-  high-not n = decides-false (λ f. n (omega (arith, f.file_length)))
-
-  pub low-not : be32 b 8 ≡ 0 → (be32 b 12 ≡ 1024 * p → ⊥) → Decides (Fixed p b) false
-  unfolding be64
-  low-not h n = decides-false (λ f. n (omega (arith, f.file_length)))
-
-  pub page-not : (be32 b 24 ≡ 1024 → ⊥) → Decides (Fixed p b) false
-  page-not n = decides-false (λ f. n f.page_size)
-
-  pub is-fixed : get_or b 7 0 < 256 → be16 b 6 ≡ 0x0102 → be32 b 8 ≡ 0 → be32 b 12 ≡ 1024 * p → be32 b 24 ≡ 1024 → Decides (Fixed p b) true
-  unfolding be16 be64
-  is-fixed l v h lo s = decides-true (record { major = omega arith; minor = omega arith; file_length = omega arith; page_size = s })
-
--- a byte of page 1
-pub byte-below : (img : List ℕ) → ((i : ℕ) → get_or img i 0 < 256) → (o : ℕ) → o < 1024 → get_or (pg img 1) o 0 < 256
-byte-below img bytes o h = omega (arith, pg-at img 1 o (omega arith) h, bytes (1024 * (1 - 1) + o))
+pub numbers_fixed : {p version high low size : ℕ} (img : List ℕ) {r : Bool} → p ≤ 4096 → ((i : ℕ) → get_or img i 0 < 256)
+    → version ≡ be16 (pg img 1) 6 → high ≡ be32 (pg img 1) 8 → low ≡ be32 (pg img 1) 12 → size ≡ be32 (pg img 1) 24
+    → Decides (Numbers p version high low size) r → Decides (Fixed p (pg img 1)) r
+unfolding be16 be64
+numbers_fixed img few bytes v h l s d =
+    let small : get_or (pg img 1) 7 0 < 256 = omega (arith, pg-at img 1 7 (omega arith) (lit< tt), bytes (1024 * (1 - 1) + 7)) in
+    record {
+      sound = λ e.
+          let x = d.sound e in
+          record {
+            major = omega (arith, v, x.is_version);
+            minor = omega (arith, v, x.is_version);
+            file_length = omega (arith, h, l, x.is_high, x.is_low);
+            page_size = sym s ∙ x.is_size;
+          };
+      complete = λ f. d.complete (record {
+        is_version = omega (arith, v, f.major, f.minor);
+        is_high = omega (arith, h, f.file_length);
+        is_low = omega (arith, l, f.file_length);
+        is_size = s ∙ f.page_size;
+      });
+    }
 
 -- ---- Page 1
 
@@ -108,20 +114,3 @@ module _ (img scr : List ℕ) where
             fr ∙ i.free,
             k.1 ∙ sym (found-rest img scr (superblock (pages_in scr) o f.size) 1 0 (super-single img _ _ _) [] t f.found).left,
           ))
-
--- ---- The count of free pages, read as k
-
-module _ (f : ℕ) {n k : ℕ} (is : k ≡ n) where
-  pub none_kept : k ≡ 0 → Decides (KeptCount f n) true
-  none_kept e = decides-true (inl (sym is ∙ e))
-
-  module _ (some : k ≡ 0 → ⊥) where
-    pub is-kept : k - 1 ≡ f → Decides (KeptCount f n) true
-    is-kept e = decides-true (inr (omega (arith, is, e, some)))
-
-    pub not-kept : (k - 1 ≡ f → ⊥) → Decides (KeptCount f n) false
-    not-kept other = decides-false go
-      where
-        go : KeptCount f n → ⊥
-        go (inl z) = some (is ∙ z)
-        go (inr e) = other (omega (arith, is, e))

@@ -15,8 +15,8 @@ use Rattle.heads.specs.Claims.{Lent, claimable, claimed, Claimed}
 use Rattle.pages.proofs.Begins.{begins-take, take_begins}
 use Rattle.std.proofs.Common.{Option as Answer, Some, None}
 use Rattle.std.proofs.lemmas.Option.{none-some, same_Some}
-use Rattle.walks.specs.Found.{claims, Found, Decides, FindsAt}
-use Rattle.walks.proofs.Founds.{decides-false, same_start, finds-none, finds-done, found-join, found_first, found-second, found-lent, claimable-open}
+use Rattle.walks.specs.Found.{claims, Found, FindsAt}
+use Rattle.walks.proofs.Founds.{same_start, finds-none, finds-done, found-join, found_first, found-second, found-lent, claimable-open}
 use Rattle.walks.proofs.Pieces.{Single, found-claimable, found-rest, found-cons, claim-done, claim-not}
 use Rattle.spans.specs.declared.Counted.{Counted}
 use Rattle.order.specs.declared.sort.Sort.{Sort}
@@ -259,14 +259,3 @@ module _ (sort : Sort) (img scr : List ℕ) (root : ℕ) where
                 keys = y.keys_are;
               })
               (λ m t f. let x = same-tally m t f in (x.0 ∙ sym f.keys, x.3))
-
--- the tests of the counts
-module _ (b : List ℕ) (a : Tally) where
-  pub size-not : (be32 b 16 ≡ a.keys → ⊥) → Decides (CountsAre b a) false
-  size-not n = decides-false (λ c. n c.size_is)
-
-  pub spans-not : (be32 b 20 ≡ a.spans → ⊥) → Decides (CountsAre b a) false
-  spans-not n = decides-false (λ c. n c.spans_is)
-
-  pub levels-not : (be32 b 24 ≡ a.levels → ⊥) → Decides (CountsAre b a) false
-  levels-not n = decides-false (λ c. n c.levels_is)

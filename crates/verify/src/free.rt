@@ -14,13 +14,11 @@ fn claim_listed(image: &[u8], scratch: &mut [u8], page: usize, count: usize) -> 
     requires { Lent image.now scratch.old × Inside image.now page 16 (4 * count) }
     ensures { FindsAt {A = Unit {0}} (λ u. true) (λ u. ListedFound image.now scratch.old page 16 count) result scratch.new }
 {
-    let mut i = 0;
-    while i < count {
+    for i in 0..count {
         let listed = get32(image, page, 16 + 4 * i);
         if !claim(scratch, listed, Kind::Free) {
             return false;
         }
-        i += 1;
     }
     true
 }
@@ -37,10 +35,10 @@ fn claim_block(image: &[u8], scratch: &mut [u8], page: usize) -> Option<usize>
     if 252 < count {
         return None;
     }
-    if claim_listed(image, scratch, page, count) {
-        return Some(1 + count);
+    if !claim_listed(image, scratch, page, count) {
+        return None;
     }
-    None
+    Some(1 + count)
 }
 
 // Claims the blocks from the one on `start` on, with the pages they list; answers F, how many these are.

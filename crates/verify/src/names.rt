@@ -16,17 +16,12 @@ use reader::place_after;
 use search::table::{METAINDEX, TableRef};
 
 // Whether a key of the metaindex is a name with a four-byte value.
+#[tactic(auto, using(crate::proofs::Named::name_not, crate::proofs::Named::name_printed))]
 fn is_named(image: &[u8], at: Place, key: usize, value: usize) -> bool
     requires { Key image.now at key × (1 ≤ key) × (key ≤ 65535) }
     ensures { NameAt image.now at key value result }
 {
-    if value != 4 {
-        return false;
-    }
-    if 255 < key {
-        return false;
-    }
-    printable(image, at, key)
+    value == 4 && key <= 255 && printable(image, at, key)
 }
 
 // Claims and reads the tables that the entries of the metaindex's span on `page` name. With `before` keys in the tables
@@ -37,9 +32,9 @@ fn verify_named(image: &[u8], scratch: &mut [u8], page: usize, before: usize) ->
     ensures { (es : List Entry) → NamesOn image.now page es → FindsAt Some (TablesFound image.now scratch.old es before) result scratch.new }
 {
     let mut at = Place { page, offset: 20 };
-    let mut left = get16(image, page, 18);
+    let size = get16(image, page, 18);
     let mut keys = before;
-    while left != 0 {
+    for _ in 0..size {
         let g = lengths(image, at);
         let first = g.after;
         if !is_named(image, first, g.key, g.value) {
@@ -51,7 +46,6 @@ fn verify_named(image: &[u8], scratch: &mut [u8], page: usize, before: usize) ->
         let n = verify_table(image, scratch, TableRef { root, sort })?;
         keys += n;
         at = place_after(image, first, g.key + g.value);
-        left -= 1;
     }
     Some(keys)
 }
@@ -62,13 +56,11 @@ pub fn verify_tables(image: &[u8], scratch: &mut [u8]) -> Option<usize>
     ensures { (meta : Table) → MetaOn image.now meta → FindsAt Some (TablesFound image.now scratch.old (entries_of meta) 0) result scratch.new }
 {
     let mut page = get32(image, METAINDEX.root, 8);
-    let mut left = get32(image, METAINDEX.root, 20);
+    let spans = get32(image, METAINDEX.root, 20);
     let mut keys = 0;
-    while left != 0 {
-        let n = verify_named(image, scratch, page, keys)?;
-        keys = n;
+    for _ in 0..spans {
+        keys = verify_named(image, scratch, page, keys)?;
         page = get32(image, page, 12);
-        left -= 1;
     }
     Some(keys)
 }

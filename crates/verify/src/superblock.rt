@@ -13,23 +13,16 @@ use pages::mark::Kind;
 use pages::read::{get16, get32};
 
 // Whether the version is 1.2, the file length that of the pages, and the page size 1024.
+#[tactic(auto, using(crate::proofs::Supers::numbers_fixed))]
 fn is_fixed(image: &[u8], pages: usize) -> bool
     requires { (length image.now ≡ 1024 * pages) × Within 1 4096 pages }
     ensures { Decides (Fixed pages (pg image.now 1)) result }
 {
-    if get16(image, 1, 6) != 0x0102 {
-        return false;
-    }
-    if get32(image, 1, 8) != 0 {
-        return false;
-    }
-    if get32(image, 1, 12) != 1024 * pages {
-        return false;
-    }
-    if get32(image, 1, 24) != 1024 {
-        return false;
-    }
-    true
+    let version = get16(image, 1, 6);
+    let high = get32(image, 1, 8);
+    let low = get32(image, 1, 12);
+    let size = get32(image, 1, 24);
+    version == 0x0102 && high == 0 && low == 1024 * pages && size == 1024
 }
 
 // Claims page 1 and reads the superblock; answers the first free-list page, 0 for none.
@@ -48,10 +41,7 @@ pub fn verify_superblock(image: &[u8], scratch: &mut [u8]) -> Option<usize>
         return None;
     }
     let size = get16(image, 1, 22);
-    if size < 2 {
-        return None;
-    }
-    if 128 < size {
+    if size < 2 || 128 < size {
         return None;
     }
     Some(get32(image, 1, 16))
@@ -63,8 +53,5 @@ pub fn is_kept(image: &[u8], free: usize) -> bool
     ensures { Decides (KeptCount free (be32 (pg image.now 1) 28)) result }
 {
     let kept = get32(image, 1, 28);
-    if kept == 0 {
-        return true;
-    }
-    if kept - 1 == free { true } else { false }
+    kept == 0 || kept - 1 == free
 }

@@ -43,16 +43,10 @@ fn are_counts(image: &[u8], root: usize, tally: Tally) -> bool
     requires { Inside image.now root 0 1024 }
     ensures { Decides (CountsAre (pg image.now root) tally) result }
 {
-    if get32(image, root, 16) != tally.keys {
-        return false;
-    }
-    if get32(image, root, 20) != tally.spans {
-        return false;
-    }
-    if get32(image, root, 24) != tally.levels {
-        return false;
-    }
-    true
+    let keys = get32(image, root, 16);
+    let spans = get32(image, root, 20);
+    let levels = get32(image, root, 24);
+    keys == tally.keys && spans == tally.spans && levels == tally.levels
 }
 
 // Claims and reads the table; answers its number of keys.
@@ -65,10 +59,7 @@ pub fn verify_table(image: &[u8], scratch: &mut [u8], table: TableRef) -> Option
         return None;
     }
     let most = get16(image, root, 28);
-    if most < 2 {
-        return None;
-    }
-    if 128 < most {
+    if most < 2 || 128 < most {
         return None;
     }
     let sort = table.sort;

@@ -1,26 +1,15 @@
-use Prim.Native.Nat.{ℕ}
-use mathlib.Core.List.{List}
-use mathlib.Core.Path.{◌≡◌, refl, sym, ◌∙◌}
+use mathlib.Core.Path.{refl}
 use native.Mathlib.Omega.{arith}
-use lib.ListN.{length}
 use Rattle.blockfile.specs.Bytes.{be16, be32}
-use Rattle.pages.specs.Places.{Inside}
 use Rattle.heads.proofs.Claims.{in_head, head32-read}
 use Rattle.walks.proofs.Founds.{unclaimed-most}
 use Rattle.towers.proofs.Climbs.{climbing-start, climbing-open, climbing-end, climbing-no, climbing-turn, turn-in-head, turn-span, climbing-next}
 use Rattle.towers.proofs.claim_others.Goals as goal
 
--- the lowest level is read as on the first page of an image
-in-levels : (levels : List ℕ) → length levels ≡ 1024 → Inside levels 1 16 4
-in-levels levels e = record { small = omega arith; low = omega arith; high = omega arith; fits = omega arith }
-
 pub loop-page-init : goal.loop-page-init
 unfolding be32 be16
 loop-page-init c =
     climbing-start _ _ _ _ _ _ _ c.requires.0 c.requires.2 refl refl c.follow.ensures _ c.get32-page.ensures.is
-
-pub place_tower-requires : goal.place_tower-requires
-place_tower-requires c = let inv = c.loop-page.invariant in (omega arith, record { image = _; lent = inv.lent; linked = inv.linked })
 
 pub returns-in_err-height : goal.returns-in_err-height
 returns-in_err-height c =
@@ -71,23 +60,8 @@ returns-then-not-all_are c = climbing-open _ _ _ _ _ _ _ _ _ _ c.loop-page.invar
 pub returns : goal.returns
 returns c = climbing-end _ _ _ _ _ _ _ _ _ _ c.loop-page.invariant c.loop-page-test.false _ c.all_are.ensures c.if-not-all_are.false
 
-pub slice_bounds-get32-end : goal.slice_bounds-get32-end
-slice_bounds-get32-end c = sym c.follow.ensures.long
-
-pub get32-page-requires : goal.get32-page-requires
-get32-page-requires c = in-levels _ c.follow.ensures.long
-
-pub shape_of-scratch-in_err-height : goal.shape_of-scratch-in_err-height
-shape_of-scratch-in_err-height c = c.place_tower.auto.scratch ∙ c.loop-page.invariant.long
-
 pub loop-page-smaller : goal.loop-page-smaller
 loop-page-smaller c =
     let inv = c.loop-page.invariant in
     let t = climbing-turn _ _ _ _ _ _ _ _ _ _ inv c.loop-page-test.true _ _ (c.place_tower.ensures _ inv.lent inv.linked) _ c.in_ok-height.was in
     omega (arith, t.falls)
-
-pub shape_of-scratch-then-not-all_are : goal.shape_of-scratch-then-not-all_are
-shape_of-scratch-then-not-all_are c = c.loop-page.invariant.long
-
-pub shape_of-scratch : goal.shape_of-scratch
-shape_of-scratch c = c.loop-page.invariant.long

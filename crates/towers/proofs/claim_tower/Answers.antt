@@ -1,11 +1,8 @@
 -- `claim_tower` meets its contract, for any image whose heads these are: each return cites the law for the tests that led there.
 use native.Mathlib.Omega.{arith}
 use Rattle.walks.proofs.Pieces.{claim-in-head, claim-head16}
-use Rattle.towers.proofs.Climbs.{tower-no, tower-not, tower-done}
+use Rattle.towers.proofs.Climbs.{tower-not, tower-done}
 use Rattle.towers.proofs.claim_tower.Goals as goal
-
-pub returns-then-not-claim : goal.returns-then-not-claim
-returns-then-not-claim c img lent = tower-no _ _ _ _ _ _ _ (c.claim.ensures img lent) c.if-not-claim.true
 
 pub head16-height-requires : goal.head16-height-requires
 head16-height-requires c =

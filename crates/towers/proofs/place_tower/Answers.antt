@@ -1,10 +1,7 @@
 -- `place_tower` meets its contract, for any image whose heads these are: each return cites the law for the tests that led there.
 use native.Mathlib.Omega.{arith}
-use Rattle.towers.proofs.Climbs.{found-lent, found-in-head, found-span, placed-no, placed_off, placed-not, placed-done}
+use Rattle.towers.proofs.Climbs.{found-lent, found-in-head, found-span, placed_off, placed-done}
 use Rattle.towers.proofs.place_tower.Goals as goal
-
-pub returns-in_err-height : goal.returns-in_err-height
-returns-in_err-height c img lent linked = rw c.from_residual.ensures (placed-no _ _ _ _ _ _ _ _ (c.claim_tower.ensures img lent) c.in_err-height.was)
 
 pub head32-span-requires : goal.head32-span-requires
 head32-span-requires c =
@@ -26,20 +23,6 @@ returns-then-not-reaches c img lent linked =
     _ (found-span f lent c.head32-span.ensures) _ (c.reaches.ensures img (found-lent _ _ _ _ _ _ _ f lent) linked)
     c.if-not-reaches.true
 
-pub all_are-requires : goal.all_are-requires
-all_are-requires c =
-    let p = c.requires in
-    let f = (c.claim_tower.ensures p.1.image p.1.lent).sound _ c.in_ok-height.was in
-    omega (arith, p.0, f.tall.high)
-
-pub returns-then-not-all_are : goal.returns-then-not-all_are
-returns-then-not-all_are c img lent linked =
-    let k = c.claim_tower.ensures img lent in
-    let f = k.sound _ c.in_ok-height.was in
-    placed-not _ _ _ _ _ _ _ _ k _ c.in_ok-height.was
-    _ (found-span f lent c.head32-span.ensures) _ (c.reaches.ensures img (found-lent _ _ _ _ _ _ _ f lent) linked)
-    _ c.all_are.ensures c.if-not-all_are.true
-
 pub returns : goal.returns
 returns c img lent linked =
     let k = c.claim_tower.ensures img lent in
@@ -47,6 +30,3 @@ returns c img lent linked =
     placed-done _ _ _ _ _ _ _ _ k _ c.in_ok-height.was
     _ (found-span f lent c.head32-span.ensures) _ (c.reaches.ensures img (found-lent _ _ _ _ _ _ _ f lent) linked)
     _ c.all_are.ensures c.if-not-reaches.false c.if-not-all_are.false
-
-pub claim_tower-requires : goal.claim_tower-requires
-claim_tower-requires c = (c.requires.1.image, c.requires.1.lent)

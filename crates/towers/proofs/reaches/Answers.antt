@@ -1,6 +1,6 @@
 use native.Mathlib.Omega.{arith}
 use Rattle.heads.proofs.Claims.{in_head}
-use Rattle.towers.proofs.Ways.{next-span, reaching-start, reaching-end, reaching-here, reaching-next}
+use Rattle.towers.proofs.Ways.{next-span, reaching-end, reaching-here, reaching-next}
 use Rattle.towers.proofs.reaches.Goals as goal
 
 pub returns-then-span-target : goal.returns-then-span-target
@@ -19,9 +19,6 @@ loop-span-smaller c = let n = (let w = c.requires in
 
 pub loop-span-preserved : goal.loop-span-preserved
 loop-span-preserved c img lent k = reaching-next lent _ _ _ (c.loop-span.invariant img lent k) c.loop-span-test.true c.if-span-target.false _ c.head32-span.ensures.is
-
-pub loop-span-init : goal.loop-span-init
-loop-span-init c img lent k = reaching-start _ _ _ k
 
 pub returns : goal.returns
 returns c img lent k = reaching-end lent _ _ _ (c.loop-span.invariant img lent k) c.loop-span-test.false

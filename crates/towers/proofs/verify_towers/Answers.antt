@@ -2,7 +2,7 @@
 use native.Mathlib.Omega.{arith}
 use mathlib.Core.Path.{◌∙◌}
 use Rattle.towers.proofs.Climbs.{found-open, found-lent, found-in-head, found-span}
-use Rattle.towers.proofs.Heads.{first-in-head, first_next, others-linked, head-no, head-off, towers-climb}
+use Rattle.towers.proofs.Heads.{first_next, others-linked, head-no, head-off, towers-climb}
 use Rattle.towers.proofs.verify_towers.Goals as goal
 
 pub returns-in_err-top : goal.returns-in_err-top
@@ -18,11 +18,6 @@ returns-then-head32-first c z s others sp =
     let k = c.claim_tower.ensures _ c.requires.0 in
     let f = k.sound _ c.in_ok-top.was in
     head-off _ _ _ _ z s others sp _ _ k _ c.in_ok-top.was _ (found-span f c.requires.0 c.head32.ensures) c.if-head32-first.true
-
-pub head32-start-requires : goal.head32-start-requires
-head32-start-requires c =
-    let f = (c.claim_tower.ensures _ c.requires.0).sound _ c.in_ok-top.was in
-    first-in-head _ _ _ _ _ c.requires.1.spanned (found-lent _ _ _ _ _ _ _ f c.requires.0)
 
 pub claim_others-requires : goal.claim_others-requires
 claim_others-requires c =
@@ -41,6 +36,3 @@ returns c z s ss sp =
     let f = k.sound _ c.in_ok-top.was in
     towers-climb _ _ _ _ z s ss sp _ _ k _ c.in_ok-top.was
     _ (found-span f c.requires.0 c.head32.ensures) c.if-head32-first.false _ (c.head32-start.ensures.is ∙ first_next _ _ z s ss sp (found-lent _ _ _ _ _ _ _ f c.requires.0)) _ _ c.claim_others.ensures
-
-pub claim_tower-requires : goal.claim_tower-requires
-claim_tower-requires c = (_, c.requires.0)

@@ -18,8 +18,8 @@ claim_listed-requires c =
     let done = c.if-not-claim.false in
     (claim-lent (c.claim.ensures _ c.requires) done c.requires, claim-inside (c.claim.ensures _ c.requires) done c.requires (omega arith))
 
-pub returns-then-claim_listed : goal.returns-then-claim_listed
-returns-then-claim_listed c = block-done _ _ _ _ _ (c.claim.ensures _ c.requires) c.if-not-claim.false _ ((claim-head32 (c.claim.ensures _ c.requires) c.if-not-claim.false c.requires (omega arith) (omega arith) c.head32-count.ensures).is) _ _ c.claim_listed.ensures c.if-count-gt252.false c.if-claim_listed.true
-
 pub returns : goal.returns
-returns c = block-not _ _ _ _ _ (c.claim.ensures _ c.requires) c.if-not-claim.false _ ((claim-head32 (c.claim.ensures _ c.requires) c.if-not-claim.false c.requires (omega arith) (omega arith) c.head32-count.ensures).is) _ _ c.claim_listed.ensures c.if-claim_listed.false
+returns c = block-done _ _ _ _ _ (c.claim.ensures _ c.requires) c.if-not-claim.false _ ((claim-head32 (c.claim.ensures _ c.requires) c.if-not-claim.false c.requires (omega arith) (omega arith) c.head32-count.ensures).is) _ _ c.claim_listed.ensures c.if-count-gt252.false c.if-not-claim_listed.false
+
+pub returns-then-not-claim_listed : goal.returns-then-not-claim_listed
+returns-then-not-claim_listed c = block-not _ _ _ _ _ (c.claim.ensures _ c.requires) c.if-not-claim.false _ ((claim-head32 (c.claim.ensures _ c.requires) c.if-not-claim.false c.requires (omega arith) (omega arith) c.head32-count.ensures).is) _ _ c.claim_listed.ensures c.if-not-claim_listed.true

@@ -1,8 +1,7 @@
 use native.Mathlib.Omega.{arith}
-use mathlib.Core.Path.{◌∙◌}
 use Rattle.heads.proofs.Claims.{head32-read}
 use Rattle.walks.proofs.Founds.{found-lent, unclaimed-most}
-use Rattle.verify.proofs.Frees.{freeing-start, freeing-end, freeing-no, freeing-next, block-turn}
+use Rattle.verify.proofs.Frees.{freeing-end, freeing-no, freeing-next, block-turn}
 use Rattle.verify.proofs.free.verify_free.Goals as goal
 
 pub returns-in_err-n : goal.returns-in_err-n
@@ -19,15 +18,6 @@ loop-page-preserved c =
     c.in_ok-n.was ((head32-read (found-lent c.loop-page.invariant.lent (c.claim_block.ensures.sound _ c.in_ok-n.was).found) (let t = (block-turn _ _ _ _ _ (c.claim_block.ensures.sound _ c.in_ok-n.was)) in
     let room = (found-lent c.loop-page.invariant.lent (c.claim_block.ensures.sound _ c.in_ok-n.was).found).room in
     record { small = omega (arith, room.whole, room.most); low = t.0.low; high = omega (arith, t.0.high, t.3); fits = omega arith }) (omega arith) c.head32-page.ensures).is)
-
-pub loop-page-init : goal.loop-page-init
-loop-page-init c = freeing-start _ _ _ c.requires
-
-pub claim_block-requires : goal.claim_block-requires
-claim_block-requires c = c.loop-page.invariant.lent
-
-pub shape_of-scratch-in_err-n : goal.shape_of-scratch-in_err-n
-shape_of-scratch-in_err-n c = c.claim_block.auto.scratch ∙ c.loop-page.invariant.long
 
 pub overflow_add-free : goal.overflow_add-free
 overflow_add-free c = omega (arith, (block-turn _ _ _ _ _ (c.claim_block.ensures.sound _ c.in_ok-n.was)), unclaimed-most c.args.scratch.now)

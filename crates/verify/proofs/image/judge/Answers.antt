@@ -52,11 +52,6 @@ returns-then-not-all_claimed c =
     _ _ c.verify_tables.ensures _ c.in_ok-keys.was _ _ c.verify_free.ensures _ c.in_ok-free.was
     (sym c.all_claimed.ensures ∙ c.if-not-all_claimed.true)
 
-pub is_kept-requires : goal.is_kept-requires
-is_kept-requires c =
-    let p = c.requires in
-    record { small = omega (arith, p.0.lent.room.size, p.0.lent.room.most); low = omega arith; high = omega (arith, p.1); fits = omega arith }
-
 pub returns-then-not-is_kept : goal.returns-then-not-is_kept
 returns-then-not-is_kept c =
     let p = c.requires in

@@ -1,75 +1,43 @@
 use native.Mathlib.Omega.{arith}
-use mathlib.Core.Path.{◌∙◌}
-use Rattle.verify.proofs.Named.{naming-start, naming-end, naming-lengths, naming-key, naming-past, naming-name, naming-unnamed, naming-value, naming-no, naming-next, table-fewer}
+use Rattle.verify.proofs.Named.{naming-end, naming-lengths, naming-key, naming-past, naming-name, naming-unnamed, naming-value, naming-no, naming-next, table-fewer}
 use Rattle.verify.proofs.names.verify_named.Goals as goal
 
-pub get16-left-requires : goal.get16-left-requires
-get16-left-requires c =
-    let h = c.requires.1.1 in
-    record { small = h.small; low = h.inside.low; high = h.inside.high; fits = omega arith }
-
-pub loop-left-init : goal.loop-left-init
-loop-left-init c es h = naming-start _ _ _ _ c.requires.0 es h _ c.get16-left.ensures.is
-
 pub lengths-g-requires : goal.lengths-g-requires
-lengths-g-requires c = naming-lengths (c.loop-left.invariant c.requires.1.0 c.requires.1.1) c.loop-left-test.true
+lengths-g-requires c = naming-lengths (c.loop.invariant c.requires.1.0 c.requires.1.1) (λ z. omega arith)
 
 pub is_named-requires : goal.is_named-requires
 is_named-requires c =
     let g = c.lengths-g.ensures in
-    let n = naming-name (c.loop-left.invariant c.requires.1.0 c.requires.1.1) c.loop-left-test.true _ g in
+    let n = naming-name (c.loop.invariant c.requires.1.0 c.requires.1.1) (λ z. omega arith) _ g in
     (n.0, n.1, omega (arith, g.key_below))
 
-pub shape_of-scratch-then-not-is_named : goal.shape_of-scratch-then-not-is_named
-shape_of-scratch-then-not-is_named c = (c.loop-left.invariant c.requires.1.0 c.requires.1.1).long
-
 pub returns-then-not-is_named : goal.returns-then-not-is_named
-returns-then-not-is_named c es h = naming-unnamed (c.loop-left.invariant es h) c.loop-left-test.true _ c.lengths-g.ensures _ c.is_named.ensures c.if-not-is_named.true
+returns-then-not-is_named c es h = naming-unnamed (c.loop.invariant es h) (λ z. omega arith) _ c.lengths-g.ensures _ c.is_named.ensures c.if-not-is_named.true
 
 pub place_after-value-requires : goal.place_after-value-requires
-place_after-value-requires c = naming-key (c.loop-left.invariant c.requires.1.0 c.requires.1.1) c.loop-left-test.true _ c.lengths-g.ensures
+place_after-value-requires c = naming-key (c.loop.invariant c.requires.1.0 c.requires.1.1) (λ z. omega arith) _ c.lengths-g.ensures
 
 pub number-root-requires : goal.number-root-requires
-number-root-requires c = naming-value (c.loop-left.invariant c.requires.1.0 c.requires.1.1) c.loop-left-test.true _ c.lengths-g.ensures _ c.is_named.ensures c.if-not-is_named.false _ c.place_after-value.ensures
+number-root-requires c = naming-value (c.loop.invariant c.requires.1.0 c.requires.1.1) (λ z. omega arith) _ c.lengths-g.ensures _ c.is_named.ensures c.if-not-is_named.false _ c.place_after-value.ensures
 
 pub sort_at-sort-requires : goal.sort_at-sort-requires
-sort_at-sort-requires c = naming-name (c.loop-left.invariant c.requires.1.0 c.requires.1.1) c.loop-left-test.true _ c.lengths-g.ensures
-
-pub verify_table-requires : goal.verify_table-requires
-verify_table-requires c = (c.loop-left.invariant c.requires.1.0 c.requires.1.1).lent
-
-pub shape_of-scratch-in_err-n : goal.shape_of-scratch-in_err-n
-shape_of-scratch-in_err-n c = c.verify_table.auto.scratch ∙ (c.loop-left.invariant c.requires.1.0 c.requires.1.1).long
+sort_at-sort-requires c = naming-name (c.loop.invariant c.requires.1.0 c.requires.1.1) (λ z. omega arith) _ c.lengths-g.ensures
 
 pub returns-in_err-n : goal.returns-in_err-n
 returns-in_err-n c es h =
-    rw c.from_residual.ensures (naming-no (c.loop-left.invariant es h) c.loop-left-test.true _ c.lengths-g.ensures _ c.is_named.ensures c.if-not-is_named.false _ c.place_after-value.ensures (λ i. let b = c.type_inv.image i in omega arith)
+    rw c.from_residual.ensures (naming-no (c.loop.invariant es h) (λ z. omega arith) _ c.lengths-g.ensures _ c.is_named.ensures c.if-not-is_named.false _ c.place_after-value.ensures (λ i. let b = c.type_inv.image i in omega arith)
     _ c.number-root.ensures _ c.sort_at-sort.ensures _ _ c.verify_table.ensures c.in_err-n.was)
 
 pub overflow_add-keys : goal.overflow_add-keys
-overflow_add-keys c = omega (arith, table-fewer _ _ _ _ _ (c.verify_table.ensures.sound _ c.in_ok-n.was), (c.loop-left.invariant c.requires.1.0 c.requires.1.1).few, c.requires.2)
-
-pub overflow_add-g : goal.overflow_add-g
-overflow_add-g c =
-    let g = c.lengths-g.ensures in
-    omega (arith, g.key_below, g.value_below)
+overflow_add-keys c = omega (arith, table-fewer _ _ _ _ _ (c.verify_table.ensures.sound _ c.in_ok-n.was), (c.loop.invariant c.requires.1.0 c.requires.1.1).few, c.requires.2)
 
 pub place_after-at-requires : goal.place_after-at-requires
-place_after-at-requires c = naming-past (c.loop-left.invariant c.requires.1.0 c.requires.1.1) c.loop-left-test.true _ c.lengths-g.ensures
+place_after-at-requires c = naming-past (c.loop.invariant c.requires.1.0 c.requires.1.1) (λ z. omega arith) _ c.lengths-g.ensures
 
-pub overflow_sub-left : goal.overflow_sub-left
-overflow_sub-left c = let t = c.loop-left-test.true in omega arith
-
-pub loop-left-smaller : goal.loop-left-smaller
-loop-left-smaller c = let t = c.loop-left-test.true in omega arith
-
-pub loop-left-preserved : goal.loop-left-preserved
-loop-left-preserved c es h =
-    naming-next (c.loop-left.invariant es h) c.loop-left-test.true _ c.lengths-g.ensures _ c.is_named.ensures c.if-not-is_named.false _ c.place_after-value.ensures (λ i. let b = c.type_inv.image i in omega arith)
-    _ c.number-root.ensures _ c.sort_at-sort.ensures _ _ c.verify_table.ensures _ c.in_ok-n.was _ c.place_after-at.ensures
-
-pub shape_of-scratch : goal.shape_of-scratch
-shape_of-scratch c = (c.loop-left.invariant _ c.requires.1.1).long
+pub loop-preserved : goal.loop-preserved
+loop-preserved c es h =
+    naming-next (c.loop.invariant es h) (λ z. omega arith) _ c.lengths-g.ensures _ c.is_named.ensures c.if-not-is_named.false _ c.place_after-value.ensures (λ i. let b = c.type_inv.image i in omega arith)
+    _ c.number-root.ensures _ c.sort_at-sort.ensures _ _ c.verify_table.ensures _ c.in_ok-n.was _ c.place_after-at.ensures (omega arith)
 
 pub returns : goal.returns
-returns c es h = naming-end (c.loop-left.invariant es h) c.loop-left-test.false
+returns c es h = naming-end (c.loop.invariant es h) (omega arith)

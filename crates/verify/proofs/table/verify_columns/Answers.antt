@@ -1,10 +1,6 @@
 -- `verify_columns` meets its contract: the spans, then the towers.
-use native.Mathlib.Omega.{arith}
 use Rattle.verify.proofs.Tables.{columns-no-spans, spans-there, columns-no-towers, columns-done}
 use Rattle.verify.proofs.table.verify_columns.Goals as goal
-
-pub verify_spans-requires : goal.verify_spans-requires
-verify_spans-requires c = (c.requires.0, omega arith)
 
 pub returns-in_err-counted : goal.returns-in_err-counted
 returns-in_err-counted c = rw c.from_residual.ensures (columns-no-spans _ _ _ c.requires.0 _ _ c.requires.2 _ c.get32-first.ensures.is _ _ c.verify_spans.ensures c.in_err-counted.was)

@@ -3,7 +3,7 @@ use native.Mathlib.Omega.{arith}
 use mathlib.Core.Path.{sym, ◌∙◌}
 use mathlib.Core.Bool.{true≢false}
 use Rattle.walks.proofs.Pieces.{claim-lent, claim-inside}
-use Rattle.verify.proofs.Tables.{table-no, table-size, table-broken, table-miscounted, table_done}
+use Rattle.verify.proofs.Tables.{table-no, table-broken, table-miscounted, table_done}
 use Rattle.verify.proofs.table.verify_table.Goals as goal
 
 pub returns-then-not-claim : goal.returns-then-not-claim
@@ -11,12 +11,6 @@ returns-then-not-claim c = table-no _ _ _ _ _ _ (c.claim.ensures _ c.requires) c
 
 pub get16-most-requires : goal.get16-most-requires
 get16-most-requires c = (claim-inside (c.claim.ensures _ c.requires) c.if-not-claim.false c.requires (omega arith))
-
-pub returns-then-most-lt2 : goal.returns-then-most-lt2
-returns-then-most-lt2 c = table-size _ _ _ _ _ _ (c.claim.ensures _ c.requires) c.if-not-claim.false (λ w. omega (arith, c.get16-most.ensures.is))
-
-pub returns-then-most-gt128 : goal.returns-then-most-gt128
-returns-then-most-gt128 c = table-size _ _ _ _ _ _ (c.claim.ensures _ c.requires) c.if-not-claim.false (λ w. omega (arith, c.get16-most.ensures.is))
 
 pub verify_columns-requires : goal.verify_columns-requires
 verify_columns-requires c = (claim-lent (c.claim.ensures _ c.requires) c.if-not-claim.false c.requires, (claim-inside (c.claim.ensures _ c.requires) c.if-not-claim.false c.requires (omega arith)), omega arith)
