@@ -7,7 +7,6 @@ ghost use Rattle.entries.specs.Sorted.{Ranked, RankMost};
 use crate::place::Place;
 use order::sort::{Sort, turn_of};
 use pages::read::word64;
-use std::num::wrapping_add_usize;
 
 // The first eight bytes of a key of n bytes as a number. Eight bytes from the place on lie on its page; those behind the key are cut off.
 fn prefix(image: &[u8], at: Place, n: usize) -> usize
@@ -29,7 +28,7 @@ pub fn rank(image: &[u8], at: Place, n: usize, sort: Sort) -> usize
     requires { Key image.now at n × (1 ≤ n) × (at.offset + 8 ≤ 1024) }
     ensures { Ranked sort image.now at n result }
 {
-    wrapping_add_usize(prefix(image, at, n), turn_of(sort))
+    prefix(image, at, n).wrapping_add(turn_of(sort))
 }
 
 // A number that the rank of a key of n bytes is not above: the rank itself unless the page ends before eight bytes.
@@ -37,9 +36,9 @@ pub fn rank_most(image: &[u8], at: Place, n: usize, sort: Sort) -> usize
     requires { Key image.now at n × (1 ≤ n) }
     ensures { RankMost sort image.now at n result }
 {
-    let offset = at.offset;
-    if offset <= 1016 {
-        return rank(image, at, n, sort);
+    if at.offset <= 1016 {
+        rank(image, at, n, sort)
+    } else {
+        usize::MAX
     }
-    18446744073709551615
 }

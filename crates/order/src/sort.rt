@@ -32,10 +32,10 @@ pub fn sort_by(b: u8) -> Sort
 pub fn sort_of(name: &[u8]) -> Sort
     ensures { result ≡ table_sort name.now }
 {
-    if name.len() == 0 {
-        return Sort::Bytes;
+    match name.first() {
+        Some(&b) => sort_by(b),
+        None => Sort::Bytes,
     }
-    sort_by(name[0])
 }
 
 // How long the keys of a table are.
@@ -64,12 +64,10 @@ pub fn sign_in(sort: Sort, key: &[u8]) -> usize
 {
     match sort {
         Sort::Bytes => 0,
-        Sort::Numbers => {
-            if key.len() == 0 {
-                return 0;
-            }
-            sign_by(key[0])
-        }
+        Sort::Numbers => match key.first() {
+            Some(&b) => sign_by(b),
+            None => 0,
+        },
     }
 }
 

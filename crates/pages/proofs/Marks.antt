@@ -132,6 +132,23 @@ kind-known Continuation = lit< tt
 kind-known Block = lit< tt
 kind-known Free = lit< tt
 
+-- the table of the code
+abbrev pub table : List (ℕ × ℕ)
+table =
+    (0x3141de4932500000, 6) ∷ (0x536b69704c697374, 8) ∷ (0x42534c6576656c73, 8) ∷ (0x5370616e00000000, 4) ∷ (0x434f4e5400000000, 4) ∷ (0x2366724c69737423, 8)
+    ∷ (0x7e2146524545217e, 8) ∷ []
+
+-- THE CODE'S TABLE IS THE TEXT'S
+pub row-mark : (k : Kind) (n : ℕ) → n ≡ kind_at k → IsMark k (get_or table n (0, 0)).0 (get_or table n (0, 0)).1
+unfolding lead super_mark skip_mark tower_mark span_mark cont_mark block_mark free_mark
+row-mark Superblock n e = rw e (record { number = refl; long = refl })
+row-mark SkipList n e = rw e (record { number = refl; long = refl })
+row-mark Tower n e = rw e (record { number = refl; long = refl })
+row-mark Span n e = rw e (record { number = refl; long = refl })
+row-mark Continuation n e = rw e (record { number = refl; long = refl })
+row-mark Block n e = rw e (record { number = refl; long = refl })
+row-mark Free n e = rw e (record { number = refl; long = refl })
+
 -- the number's first bytes are the mark
 pub mark-first-bytes : (k : Kind) → take (length (get_or marks (kind_at k) [])) (to_be_bytes w64 (lead 8 (get_or marks (kind_at k) []))) ≡ get_or marks (kind_at k) []
 unfolding lead super_mark skip_mark tower_mark span_mark cont_mark block_mark free_mark

@@ -18,21 +18,31 @@ pub enum Kind {
     Free,
 }
 
-// The mark of a kind, as the number that its bytes are with zeros behind them up to eight, and its length: the superblock's,
-// "SkipList", "BSLevels", "Span", "CONT", "#frList#" and "~!FREE!~". As a number, and not as bytes, the mark of a known kind is a
-// constant in the compiled code.
+// The table of the marks by kind, each as the number that its bytes are with zeros behind them up to eight, and its length: the
+// superblock's, "SkipList", "BSLevels", "Span", "CONT", "#frList#" and "~!FREE!~". As numbers, and not as bytes, a mark of a known
+// kind is a constant in the compiled code.
+pub const MARKS: [(usize, usize); 7] = [
+    (0x3141de4932500000, 6),
+    (0x536b69704c697374, 8),
+    (0x42534c6576656c73, 8),
+    (0x5370616e00000000, 4),
+    (0x434f4e5400000000, 4),
+    (0x2366724c69737423, 8),
+    (0x7e2146524545217e, 8),
+];
+
+// The place of a kind's mark in the table.
+fn row(kind: Kind) -> usize
+    ensures { result ≡ kind_at kind }
+{
+    kind as usize
+}
+
+// The mark of a kind: its number, and its length.
 pub fn mark(kind: Kind) -> (usize, usize)
     ensures { IsMark kind result.0 result.1 }
 {
-    match kind {
-        Kind::Superblock => (0x3141de4932500000, 6),
-        Kind::SkipList => (0x536b69704c697374, 8),
-        Kind::Tower => (0x42534c6576656c73, 8),
-        Kind::Span => (0x5370616e00000000, 4),
-        Kind::Continuation => (0x434f4e5400000000, 4),
-        Kind::Block => (0x2366724c69737423, 8),
-        Kind::Free => (0x7e2146524545217e, 8),
-    }
+    MARKS[row(kind)]
 }
 
 // Whether the bytes from `at` on begin with the mark of the kind: eight bytes as a number, and the mark's number, both cut off

@@ -1,6 +1,5 @@
 // Key and value bytes run on at offset 8 of the next continuation page: a reader holds the image and the place in it from where
-// to read on. Each function over a reader is thin; a function on the slice and numbers has
-// the work. Whoever has an image and a place calls `place_after` or `copy_from`, which need no reader.
+// to read on. Each function over a reader is thin; `forward` and `copy` have the work. Whoever has an image and a place calls `place_after` or `copy_from`, which need no reader.
 #![tactic(auto)]
 
 ghost use Rattle.std.specs.Prelude.{◌≡◌, ◌≤◌, length};
@@ -10,7 +9,7 @@ ghost use Rattle.reader.specs.Readers.{place_of};
 use entries::copy::copy;
 use entries::place::{Place, forward};
 
-// The image, and the page and offset of the next byte; as for a place, the offset may be 1024.
+// The image, and the page and offset of the next byte, which is the form that document 01 gives; as for a place, the offset may be 1024.
 #[derive(Clone, Copy)]
 pub struct Reader<'a> {
     pub image: &'a [u8],
@@ -28,20 +27,16 @@ pub fn reader_at<'a>(image: &'a [u8], page: usize, offset: usize) -> Reader<'a>
     }
 }
 
-// The place n bytes on from the page and offset.
-fn forward_at(image: &[u8], page: usize, offset: usize, n: usize) -> Place
-    requires { Enough image.now (record { page = page; offset = offset }) n }
-    ensures { Moved image.now (record { page = page; offset = offset }) n result }
-{
-    forward(image, Place { page, offset }, n)
-}
-
 // The reader behind the next n bytes.
 pub fn skip<'a>(r: Reader<'a>, n: usize) -> Reader<'a>
     requires { Enough r.image.now (place_of r) n }
     ensures { (result.image ≡ r.entry.image) × Moved r.entry.image.now (place_of r.entry) n (place_of result) }
 {
-    let after = forward_at(r.image, r.page, r.offset, n);
+    let at = Place {
+        page: r.page,
+        offset: r.offset,
+    };
+    let after = forward(r.image, at, n);
     Reader {
         image: r.image,
         page: after.page,
@@ -61,20 +56,16 @@ pub fn place_after(image: &[u8], at: Place, n: usize) -> Place
     }
 }
 
-// Copies the n bytes from the page and offset on to the start of `into`.
-fn copy_at(image: &[u8], page: usize, offset: usize, n: usize, into: &mut [u8])
-    requires { Enough image.now (record { page = page; offset = offset }) n × (n ≤ length into.old) }
-    ensures { Copied image.now (record { page = page; offset = offset }) n into.old into.new }
-{
-    copy(image, Place { page, offset }, n, into);
-}
-
 // Copies the next n bytes to the start of `into`.
 pub fn copy_next<'a, 'b>(r: Reader<'a>, n: usize, into: &'b mut [u8])
     requires { Enough r.image.now (place_of r) n × (n ≤ length into.old) }
     ensures { Copied r.entry.image.now (place_of r.entry) n into.old into.new }
 {
-    copy_at(r.image, r.page, r.offset, n, into)
+    let at = Place {
+        page: r.page,
+        offset: r.offset,
+    };
+    copy(r.image, at, n, into)
 }
 
 // Copies the n bytes from the place on to the start of `into`.
