@@ -12,16 +12,12 @@ use Rattle.blockfile.specs.Encode.{whole_span, whole_tower, whole_skip_list}
 use Rattle.blockfile.specs.Create.{empty_table, whole_table}
 use Rattle.laws.proofs.Writes.{apply-append}
 use Rattle.pages.specs.Places.{Inside}
-use Rattle.pages.specs.Taking.{Ahead, TakenAfter}
+use Rattle.pages.specs.Taking.{TakenAfter}
 use Rattle.links.specs.Links.{tower_as, skip_list_as}
 use Rattle.links.proofs.Relinked.{new-head}
 use Rattle.edit.specs.Staged.{header}
 use Rattle.create.specs.declared.table.NewTable.{NewTable}
 use Rattle.create.specs.Tables.{TableFor, TableReady, empty_span}
-
--- a page that is taken sooner
-pub ahead-sooner : {img : List ℕ} {j : ℕ} → Ahead img j → (i : ℕ) → i ≤ j → Ahead img i
-ahead-sooner a i l = record { free = a.free; shown = a.shown; more = omega (arith, a.more) }
 
 -- a page that was free, in an image as long
 taken-inside : {img : List ℕ} {j n : ℕ} → TakenAfter img j n → (out : List ℕ) → length out ≡ length img → length img ≤ 4194304 → Inside out n 0 1024

@@ -3,7 +3,7 @@ use Prim.Native.Nat.{ℕ, ◌+◌, ◌*◌, ◌<◌, ◌≤◌}
 use native.Mathlib.Omega.{arith}
 use native.Mathlib.Numerals.{add-one}
 use native.Mathlib.Decide.{dec_lt}
-use mathlib.Core.Path.{◌≡◌, refl, ap, sym, ◌∙◌}
+use mathlib.Core.Path.{◌≡◌, ap, sym, ◌∙◌}
 use mathlib.Core.Logic.{by_cases}
 use mathlib.Core.List.{List, [], ◌∷◌}
 use lib.ListN.{length, get_or, take, drop, length-take, drop_of_length-le}
@@ -36,9 +36,6 @@ pub record Keeping (img : List ℕ) (start wanted : ℕ) (numbers₀ : List ℕ)
   pub is : (c : Chained img start) → Part c.old wanted numbers₀ at numbers next count
 
 module _ (img : List ℕ) (start wanted : ℕ) (numbers₀ : List ℕ) (at : ℕ) where
-  pub keeping_start : Keeping img start wanted numbers₀ at numbers₀ start 0
-  keeping_start = record { size = refl; is = λ c. record { most = omega arith; all = omega arith; page = c.first; listed = refl } }
-
   module _ (numbers : List ℕ) (next count : ℕ) (v : Keeping img start wanted numbers₀ at numbers next count) where
     there : (c : Chained img start) → (next ≡ 0 → ⊥) → count < length c.old
     there c some = first_some count c.old (λ z. some ((v.is c).page ∙ z))

@@ -14,7 +14,7 @@ use Rattle.laws.proofs.Steps.{Holds}
 use Rattle.laws.proofs.Opens.{all_pieces}
 use Rattle.laws.proofs.Draws.{Few, Draws, take-one, few-taken, left-taken}
 use Rattle.pages.specs.Taking.{Takeable, Took}
-use Rattle.draw.specs.Hands.{InHand, Stocked, stored, TookAll}
+use Rattle.draw.specs.Hands.{InHand, Stocked, stored}
 use Rattle.draw.proofs.Hands.{shown}
 use Rattle.draw.proofs.Listings.{stored-append, stored_one}
 
@@ -103,12 +103,3 @@ module _ (img₀ : List ℕ) (count : ℕ) (numbers₀ : List ℕ) (at : ℕ) wh
             let h : InHand img [] = k'.stock.hand in
             rw (o, e, t.image h.free (shown h))
             (take-turn (count - (i + 1)) k'.stock goal goals numbers (at + i) r (t.page h.free (shown h)) k'.same k'.listed)
-
-    pub taking-end : count ≤ i → TookAll img₀ count numbers₀ at img numbers
-    taking-end l = record { image = λ s. (done (v.left s)).0; listed = λ s. (done (v.left s)).1 }
-      where
-        done : {goal goals : List ℕ} → Left goal goals img numbers (at + i) (count - i) → (img ≡ goal) × (numbers ≡ goals)
-        done {goal} {goals} k =
-            let q : count - i ≡ 0 = omega arith in
-            let k' : Left goal goals img numbers (at + i) 0 = rw q at k in
-            (k'.same, k'.listed)

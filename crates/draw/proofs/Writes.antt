@@ -1,11 +1,11 @@
 -- A span's pages written one after another.
-use Prim.Native.Nat.{ℕ, ◌+◌, ◌*◌, ◌<◌, ◌≤◌}
+use Prim.Native.Nat.{ℕ, ◌+◌, ◌*◌, ◌<◌}
 use native.Mathlib.Omega.{arith}
 use mathlib.Core.Path.{◌≡◌, refl, ap, ◌∙◌, subst}
 use mathlib.Core.List.{List, [], ◌∷◌, ◌++◌}
 use lib.ListN.{length, get_or, take, drop}
 use lib.Seq.{drop-drop}
-use Rattle.blockfile.specs.Bytes.{be32, word32, write, apply, Every, first_of, padded}
+use Rattle.blockfile.specs.Bytes.{word32, write, apply, Every, first_of, padded}
 use Rattle.blockfile.specs.Marks.{marks, span_mark, cont_mark}
 use Rattle.blockfile.specs.Fields.{Numbers}
 use Rattle.blockfile.specs.Encode.{stream_pages}
@@ -14,23 +14,9 @@ use Rattle.pages.specs.Places.{Inside}
 use Rattle.pages.specs.Kinds.{kind_at}
 use Rattle.pages.specs.declared.mark.Kind.{Kind}
 use Rattle.pages.specs.declared.mark.Kind.TheVariants.{Span, Continuation}
-use Rattle.draw.specs.Writing.{FirstAt, PageOf, Writable, WroteChain}
+use Rattle.draw.specs.Writing.{FirstAt, PageOf, Writable}
 
 -- ---- The first number of a part of the list
-
-pub first-number : (numbers : List ℕ) (i end r : ℕ) → i < end → r ≡ be32 numbers (4 * i) → FirstAt numbers i end r
-first-number numbers i end r l e = record { is = go }
-  where
-    go : (ns : List ℕ) → Numbers numbers (4 * i) ns → i + length ns ≡ end → r ≡ first_of ns
-    go [] h q = absurd (omega arith)
-    go (n ∷ ns) h q = e ∙ h.0
-
-pub first-none : (numbers : List ℕ) (i end : ℕ) → end ≤ i → FirstAt numbers i end 0
-first-none numbers i end l = record { is = go }
-  where
-    go : (ns : List ℕ) → Numbers numbers (4 * i) ns → i + length ns ≡ end → 0 ≡ first_of ns
-    go [] h q = refl
-    go (n ∷ ns) h q = absurd (omega arith)
 
 -- ---- The loop
 
@@ -102,10 +88,3 @@ module _ (img₀ numbers : List ℕ) (at count : ℕ) (stream : List ℕ) where
               first = link;
               same = rw (e, q, link, ← d, ← drop-drop 1016 (1016 * i) stream) g;
             }
-
-    pub writing-end : count ≤ i → WroteChain img₀ numbers at count stream img
-    writing-end l = record { image = λ w. done (apply (stream_pages span_mark w.pages stream) img₀) (v.left w).rest (v.left w).many (v.left w).same }
-      where
-        done : (goal ns : List ℕ) → i + length ns ≡ count → apply (stream_pages (mark_of kind) ns (drop (1016 * i) stream)) img ≡ goal → img ≡ goal
-        done goal [] m g = g
-        done goal (n ∷ ns) m g = absurd (omega arith)

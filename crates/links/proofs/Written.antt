@@ -6,7 +6,7 @@ use native.Mathlib.Numerals.{add-one}
 use mathlib.Core.Path.{◌≡◌, refl, ap, sym, ◌∙◌}
 use mathlib.Core.List.{List, [], ◌∷◌, ◌++◌, map, map-append, append_assoc, append-nil}
 use lib.ListN.{length, get_or, take, replicate, length-append}
-use lib.Seq.{take-add, take_all, drop-cons, length-take-le}
+use lib.Seq.{take-add, drop-cons, length-take-le}
 use Rattle.blockfile.specs.Bytes.{Write, on, word16, word32, write, apply, gather, from}
 use Rattle.blockfile.specs.Marks.{skip_mark, tower_mark}
 use Rattle.blockfile.specs.Encode.{whole_tower, counts, whole_skip_list}
@@ -16,8 +16,7 @@ use Rattle.laws.proofs.Places.{gather_append}
 use Rattle.laws.proofs.Writes.{apply-append}
 use Rattle.laws.proofs.Encodes.{length-numbers32}
 use Rattle.laws.proofs.TowerLinks.{from-append}
-use Rattle.pages.specs.Places.{Inside}
-use Rattle.links.specs.Links.{link_writes, Linkable, levels_below, tower_as}
+use Rattle.links.specs.Links.{link_writes, levels_below, tower_as}
 
 -- one more level
 map_more : {A : Type 0} (f : ℕ → A) (h : ℕ) → map f (from 0 (h + 1)) ≡ map f (from 0 h) ++ f h ∷ []
@@ -39,14 +38,7 @@ pub record Linking (img₀ before values : List ℕ) (h : ℕ) (img : List ℕ) 
   pub is : img ≡ apply (link_writes before values i) img₀
   pub long : length img ≡ length img₀
 
-pub linking-none : (img before values : List ℕ) (h : ℕ) → Linking img before values h img 0
-linking-none img before values h = record { most = omega arith; is = refl; long = refl }
-
 module _ {img₀ before values : List ℕ} {h : ℕ} {img : List ℕ} {i : ℕ} (l : Linking img₀ before values h img i) where
-  pub linking-inside : Linkable img₀ before h → i < h → Inside img (get_or before i 0) (16 + 4 * i) 4
-  linking-inside k b =
-      record { small = omega (arith, l.long, k.small); low = (k.pages i b).low; high = omega (arith, l.long, (k.pages i b).high); fits = omega (arith, k.few) }
-
   pub linking-more : i < h → (out : List ℕ) → out ≡ write img (get_or before i 0) (16 + 4 * i) (word32 (get_or values i 0)) → Linking img₀ before values h out (i + 1)
   linking-more b out e =
       let f : ℕ → Write = λ i. on (get_or before i 0) (16 + 4 * i) (word32 (get_or values i 0)) in
@@ -55,9 +47,6 @@ module _ {img₀ before values : List ℕ} {h : ℕ} {img : List ℕ} {i : ℕ} 
         is = e ∙ ap (λ (m : List ℕ). apply (f i ∷ []) m) l.is ∙ sym (ap (λ (ws : List Write). apply ws img₀) (map_more f i) ∙ apply-append (map f (from 0 i)) (f i ∷ []) img₀);
         long = ap length e ∙ length-write img (get_or before i 0) (16 + 4 * i) (word32 (get_or values i 0)) ∙ l.long;
       }
-
-  pub linking-all : h ≤ i → img ≡ apply (link_writes before values h) img₀
-  linking-all b = let e : i ≡ h = omega (arith, l.most) in l.is ∙ ap (λ (n : ℕ). apply (link_writes before values n) img₀) e
 
 -- ---- put_entries: i entries are written
 
@@ -88,9 +77,6 @@ module _ {img₀ : List ℕ} {page : ℕ} {nexts img : List ℕ} {i : ℕ} (l : 
             (sym (ap (gather word32) more ∙ gather_append word32 done (next ∷ []) ∙ ap (λ (x : List ℕ). gather word32 done ++ x) (append-nil (word32 next))));
         long = ap length e ∙ length-write img page (16 + 4 * i) (word32 next) ∙ l.long;
       }
-
-  pub entering-all : length nexts ≤ i → img ≡ write img₀ page 16 (gather word32 nexts)
-  entering-all b = l.is ∙ ap (λ (ns : List ℕ). write img₀ page 16 (gather word32 ns)) (take_all i nexts b)
 
 -- ---- Whole pages
 

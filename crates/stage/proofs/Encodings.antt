@@ -28,10 +28,6 @@ take-zeros n m h =
     let sum : n + (m - n) ≡ m = omega arith in
     ap (λ (k : ℕ). take n (zeros k)) (sym sum) ∙ ap (take n) (sym (replicate-append-replicate n (m - n) 0)) ∙ take_at (zeros n) (zeros (m - n)) n (length-replicate n 0)
 
--- the gap is within the three zeros
-pub gap-long : (n : ℕ) → n ≤ 3 → length (take n (zeros 3)) ≡ n
-gap-long n h = ap length (take-zeros n 3 h) ∙ length-replicate n 0
-
 pub lengths-put : (old : List ℕ) (end lens key value : ℕ) {l1 l2 l3 : List ℕ} → lens ≡ lens_start end → lens ≤ end + 3
     → l1 ≡ sets old end (take (lens - end) (zeros 3)) → l2 ≡ sets l1 lens (word16 key) → l3 ≡ sets l2 (lens + 2) (word16 value)
     → Lengthened old end key value l3 (lens + 4)

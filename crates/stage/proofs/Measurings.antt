@@ -21,7 +21,7 @@ use Rattle.stage.specs.Changes.{spliced, Fits, Stands, Has, Going, Kept, NextOf}
 use Rattle.stage.specs.Parts.{far, Sized, Measures, EntryMeasured, Gone, PartMeasured, Measurable, MeasuredOn}
 use Rattle.stage.proofs.Splices.{bit, length-spliced}
 use Rattle.stage.proofs.Cursors.{start-stands}
-use Rattle.stage.proofs.Sections.{entry-sized, sized-end, gone-start, gone-next}
+use Rattle.stage.proofs.Sections.{entry-sized, sized-end, gone-next}
 
 -- ---- measure_entry
 
@@ -48,9 +48,6 @@ pub record Measuring (img : List ℕ) (c : Change) (both n : ℕ) (u v : Cursor)
   pub most : i ≤ n
   pub near : end ≤ 12 + 131077 * i
   pub is : (e : Entry) (es : List Entry) → Sized e both → Stands img c es u → Has c es u n → Gone img c e es u i v end
-
-pub measuring-start : (img : List ℕ) (c : Change) (both n : ℕ) (u : Cursor) → Measuring img c both n u u 12 0
-measuring-start img c both n u = record { most = omega arith; near = omega arith; is = λ e es z s h. gone-start e s }
 
 -- an entry of so many bytes
 abbrev sample : ℕ → Entry
@@ -108,10 +105,6 @@ module _ {img : List ℕ} {page : ℕ} {c : Change} {half : ℕ} (m : Measurable
 
   first-has : (x : SpanOn img page) → Has c x.linked.span.entries u half
   first-has x = omega (arith, m.has, first-index, as_many x)
-
-  -- the code's sums fit
-  pub size_room : (size : ℕ) → Number (be16 (pg img page) 18) 65536 size → half + from_bool c.drops ≤ size + from_bool c.adds
-  size_room size z = omega (arith, m.has, z.is, span-size m.span)
 
   pub first-going : Going img c u half
   first-going = record { entries = m.span.linked.span.entries; stands = first-stands m.span; has = first-has m.span }

@@ -1,7 +1,7 @@
 -- The ways through `stage_entry` and `stage`.
 use Prim.Native.Nat.{ℕ, ◌+◌, ◌≤◌, ◌<◌}
 use native.Mathlib.Omega.{arith}
-use mathlib.Core.Path.{◌≡◌, refl, ap, sym, ◌∙◌, subst}
+use mathlib.Core.Path.{◌≡◌, ap, sym, ◌∙◌, subst}
 use mathlib.Core.List.{List, [], ◌∷◌, ◌++◌, append-nil}
 use lib.ListN.{length, take, drop, drop_of_length-le}
 use lib.Seq.{sets, sets-eq, drop_at, length-take-le}
@@ -17,7 +17,7 @@ use Rattle.stage.specs.declared.change.Next.TheVariants.{New, Old}
 use Rattle.stage.specs.declared.measure.Part.{Part}
 use Rattle.stage.specs.Changes.{spliced, Stands, Has, Kept, NextOf}
 use Rattle.stage.specs.Parts.{part, Gone, EntryPut, Copyable, OldPut, EntryStageable, StagesEntry, EntryStaged, Stageable, Staged}
-use Rattle.stage.proofs.Sections.{part-next, end-next, end-most, turned-part, gone-start, gone-next, bytes-append}
+use Rattle.stage.proofs.Sections.{part-next, end-next, end-most, turned-part, gone-next, bytes-append}
 
 -- ---- stage_entry
 
@@ -62,9 +62,6 @@ pub record Staging (img : List ℕ) (c : Change) (u : Cursor) (k v : List ℕ) (
   pub most : i ≤ n
   pub long : length new ≡ length old
   pub is : (es : List Entry) → Stands img c es u → Has c es u n → Wrote img c (record { key = k; value = v }) es u i old new w end
-
-pub staging-start : (img : List ℕ) (c : Change) (u : Cursor) (k v : List ℕ) (n : ℕ) (old : List ℕ) → Staging img c u k v n old old u 12 0
-staging-start img c u k v n old = record { most = omega arith; long = refl; is = λ es s h. record { gone = gone-start _ s; bytes = refl } }
 
 wrote-next : {img : List ℕ} {c : Change} {e : Entry} {es : List Entry} {u : Cursor} {i : ℕ} {old mid new : List ℕ} {w : Cursor} {end : ℕ} {r : Part}
     → Wrote img c e es u i old mid w end → StagesEntry img c e es w end mid new r → Wrote img c e es u (i + 1) old new r.after r.end

@@ -1,7 +1,6 @@
 use native.Mathlib.Omega.{arith}
 use mathlib.Core.Path.{refl, ◌∙◌}
-use Rattle.create.proofs.Tables.{table-ready}
-use Rattle.create.proofs.Enterings.{small, conts-known, wanted-near, reach_few, all-used, pages-ahead, plan-ready, whole-pages, carry-ready, stored-word, no_room, entered}
+use Rattle.create.proofs.Enterings.{conts-known, wanted-near, reach_few, all-used, pages-ahead, plan-ready, whole-pages, carry-ready, stored-word, no_room, entered}
 use Rattle.create.proofs.enter.Goals as goal
 
 pub make_plan-plan-requires : goal.make_plan-plan-requires
@@ -37,9 +36,6 @@ pub carry_out-requires : goal.carry_out-requires
 carry_out-requires c =
     let h = c.requires in
     carry-ready h c.make_plan-plan.ensures _ c.count_conts-old.ensures c.if-available-total.false (whole-pages h refl c.make_plan-plan.ensures) _ _ (c.set_number.ensures ∙ stored-word _)
-
-pub write_table-requires : goal.write_table-requires
-write_table-requires c = table-ready c.new_table-table.ensures _ c.carry_out.auto.image (small c.requires.enters)
 
 pub returns : goal.returns
 returns c =

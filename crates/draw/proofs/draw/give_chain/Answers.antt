@@ -20,8 +20,5 @@ loop-page-preserved c = giving-next c.loop-page.invariant c.requires c.loop-page
 pub loop-page-init : goal.loop-page-init
 loop-page-init c = giving-start _ _
 
-pub shape_of-image : goal.shape_of-image
-shape_of-image c = c.loop-page.invariant.size
-
 pub returns : goal.returns
 returns c = giving-end c.loop-page.invariant c.loop-page-test.false

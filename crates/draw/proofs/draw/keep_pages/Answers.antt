@@ -1,5 +1,5 @@
 use native.Mathlib.Omega.{arith}
-use Rattle.draw.proofs.Keeps.{keeping_start, keeping-inside, keeping-next, keeping-end}
+use Rattle.draw.proofs.Keeps.{keeping-inside, keeping-next, keeping-end}
 use Rattle.draw.proofs.draw.keep_pages.Goals as goal
 
 pub get32-next-requires : goal.get32-next-requires
@@ -13,12 +13,3 @@ returns-else-next-ne0 c = keeping-end _ _ _ _ _ _ _ _ c.loop-count.invariant (λ
 
 pub returns-after-loop-count : goal.returns-after-loop-count
 returns-after-loop-count c = keeping-end _ _ _ _ _ _ _ _ c.loop-count.invariant (λ l. absurd (omega (arith, c.loop-count-test.false)))
-
-pub loop-count-init : goal.loop-count-init
-loop-count-init c = keeping_start _ _ _ _ _
-
-pub shape_of-numbers-else-next-ne0 : goal.shape_of-numbers-else-next-ne0
-shape_of-numbers-else-next-ne0 c = c.loop-count.invariant.size
-
-pub shape_of-numbers-after-loop-count : goal.shape_of-numbers-after-loop-count
-shape_of-numbers-after-loop-count c = c.loop-count.invariant.size

@@ -1,5 +1,5 @@
 use native.Mathlib.Omega.{arith}
-use Rattle.draw.proofs.Takes.{takeable, taking-start, taking-next, taking-end}
+use Rattle.draw.proofs.Takes.{takeable, taking-start, taking-next}
 use Rattle.draw.proofs.draw.take_pages.Goals as goal
 
 pub take_page-page-requires : goal.take_page-page-requires
@@ -10,12 +10,3 @@ loop-i-preserved c = taking-next _ _ _ _ _ _ _ c.loop-i.invariant c.requires.0 c
 
 pub loop-i-init : goal.loop-i-init
 loop-i-init c = taking-start _ _ _ _
-
-pub shape_of-image : goal.shape_of-image
-shape_of-image c = c.loop-i.invariant.size
-
-pub shape_of-numbers : goal.shape_of-numbers
-shape_of-numbers c = c.loop-i.invariant.long
-
-pub returns : goal.returns
-returns c = taking-end _ _ _ _ _ _ _ c.loop-i.invariant c.loop-i-test.false

@@ -1,5 +1,5 @@
 use native.Mathlib.Omega.{arith}
-use Rattle.draw.proofs.Writes.{writing_start, writing-inside, writing-next, writing-end}
+use Rattle.draw.proofs.Writes.{writing_start, writing-inside, writing-next}
 use Rattle.draw.proofs.write.write_chain.Goals as goal
 
 pub put_page-requires : goal.put_page-requires
@@ -13,9 +13,3 @@ loop-i-preserved c = writing-next _ _ _ _ _ _ _ _ _ c.loop-i.invariant c.loop-i-
 
 pub loop-i-init : goal.loop-i-init
 loop-i-init c = writing_start _ _ _ _ _ _ c.first_at-page.ensures
-
-pub shape_of-image : goal.shape_of-image
-shape_of-image c = c.loop-i.invariant.size
-
-pub returns : goal.returns
-returns c = writing-end _ _ _ _ _ _ _ _ _ c.loop-i.invariant c.loop-i-test.false

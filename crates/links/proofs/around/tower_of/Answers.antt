@@ -1,13 +1,8 @@
 -- `links::around::tower_of` meets its contract: the next tower behind those before a span is its own or names another.
-use native.Mathlib.Omega.{arith}
 use mathlib.Core.Path.{sym, ◌∙◌}
 use mathlib.Core.Logic.{inl, inr}
-use Rattle.links.proofs.Leading.{path-pages}
 use Rattle.links.proofs.Owner.{flat-none, lowest-inside, next-inside, next-none, next-own}
 use Rattle.links.proofs.around.tower_of.Goals as goal
-
-pub overflow_cast-lowest : goal.overflow_cast-lowest
-overflow_cast-lowest c = let p = c.requires in omega (arith, (path-pages p.reading p.place p.is.path).small 0)
 
 pub returns-then-lowest-eq0 : goal.returns-then-lowest-eq0
 returns-then-lowest-eq0 c = record { is = λ root t k a. flat-none a c.if-lowest-eq0.true }

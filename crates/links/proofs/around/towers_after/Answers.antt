@@ -1,13 +1,9 @@
 use native.Mathlib.Omega.{arith}
 use mathlib.Core.Path.{◌≡◌, refl, ◌∙◌}
-use Rattle.search.proofs.Fills.{fill_none, fill_more}
+use Rattle.search.proofs.Fills.{fill_none}
 use Rattle.links.proofs.Behind.{level-inside, after_is}
-use Rattle.search.proofs.Tables.{reading-inside}
 use Rattle.search.proofs.Towers.{head-tall, head-inside, head-height}
 use Rattle.links.proofs.around.towers_after.Goals as goal
-
-pub get32-requires : goal.get32-requires
-get32-requires c = reading-inside c.requires.reading _ _ (omega arith)
 
 pub get16-height-requires : goal.get16-height-requires
 get16-height-requires c = head-inside c.requires.reading _ c.get32.ensures.is _ _ (omega arith)
@@ -21,11 +17,6 @@ pub get32-requires-in-loop-i : goal.get32-requires-in-loop-i
 get32-requires-in-loop-i c =
     let p = c.requires in
     level-inside p.reading p.place p.before _ (omega (arith, c.loop-i.invariant)) (omega (arith, (head-height c.requires.reading _ _ c.get32.ensures.is c.get16-height.ensures.is), c.loop-i-test.true))
-
-pub loop-i-preserved : goal.loop-i-preserved
-loop-i-preserved c =
-    let v = c.loop-i.invariant in
-    (v.0, fill_more v.1 (omega arith) _ c.get32-in-loop-i.ensures.is)
 
 pub returns : goal.returns
 returns c =

@@ -2,11 +2,6 @@
 use Rattle.stage.proofs.Stagings.{new-room-for, old-room-for, stage-new, stage-old}
 use Rattle.stage.proofs.encode.stage_entry.Goals as goal
 
-pub next_entry-next-requires : goal.next_entry-next-requires
-next_entry-next-requires c =
-    let p = c.requires in
-    record { entries = p.entries; stands = p.stands; has = p.has }
-
 pub put_new-end-requires : goal.put_new-end-requires
 put_new-end-requires c = new-room-for c.requires c.next_entry-next.ensures _ c.in-New.is
 

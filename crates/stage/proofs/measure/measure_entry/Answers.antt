@@ -16,9 +16,3 @@ pub returns-in-Old : goal.returns-in-Old
 returns-in-Old c =
     let l = c.lens_at-lens.ensures in
     entry_old c.next_entry-next.ensures l.0 l.2 _ c.in-Old.is
-
-pub overflow_add-result-in-Old-2 : goal.overflow_add-result-in-Old-2
-overflow_add-result-in-Old-2 c = omega (arith, (c.next_entry-next.ensures.small _ _ c.in-Old.is).0, (c.next_entry-next.ensures.small _ _ c.in-Old.is).1)
-
-pub overflow_add-result-in-Old-3 : goal.overflow_add-result-in-Old-3
-overflow_add-result-in-Old-3 c = omega (arith, (c.next_entry-next.ensures.small _ _ c.in-Old.is).0, (c.next_entry-next.ensures.small _ _ c.in-Old.is).1)

@@ -1,4 +1,4 @@
-use Rattle.stage.proofs.Measurings.{measuring-start, measuring-next, measuring-end, measuring-going, measuring-near}
+use Rattle.stage.proofs.Measurings.{measuring-next, measuring-end, measuring-going, measuring-near}
 use Rattle.stage.proofs.measure.measure_part.Goals as goal
 
 pub measure_entry-part-requires : goal.measure_entry-part-requires
@@ -14,6 +14,3 @@ loop-i-preserved c = measuring-next c.loop-i.invariant c.loop-i-test.true _ c.me
 
 pub returns : goal.returns
 returns c = measuring-end c.loop-i.invariant c.requires.0 c.loop-i-test.false
-
-pub loop-i-init : goal.loop-i-init
-loop-i-init c = measuring-start _ _ _ _ _
