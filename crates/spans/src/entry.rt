@@ -132,7 +132,7 @@ fn leap<'a>(pages: Pages<'a>, at: Place, left: usize, n: usize) -> Place
     }
 }
 
-// Reads the entry that follows; what is left goes up to the end of the span's pages.
+// Reads the entry that follows. The bytes left go up to the end of the span's pages.
 fn verify_entry<'a>(pages: Pages<'a>, from: Position, sort: Sort) -> Option<Position>
     requires { Lent pages.image.now pages.scratch.now × Ready sort pages.image.now from.at from.left from.last × Spread pages.image.now pages.chart.now pages.more from.at from.left }
     ensures { Entering sort pages.entry.image.now from.at from.last 1 result }
@@ -189,10 +189,7 @@ fn try_entry(image: &[u8], at: Place, sort: Sort, allowed: Lengths, high: usize)
     if 1024 < end {
         return None;
     }
-    if key < allowed.least {
-        return None;
-    }
-    if allowed.most < key {
+    if key < allowed.least || allowed.most < key {
         return None;
     }
     let rank = rank(image, start, key, sort);
@@ -271,7 +268,7 @@ fn run_after(before: usize, rank: usize, left: usize) -> usize
     if before == rank { 0 } else { left }
 }
 
-// Reads `size` entries.
+// Reads `size` entries. A turn reads those that are skimmed and the one that was left, so the loop is over no index.
 pub fn verify_entries<'a>(
     pages: Pages<'a>,
     from: Position,

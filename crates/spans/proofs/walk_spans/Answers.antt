@@ -1,4 +1,3 @@
-use mathlib.Core.Path.{◌∙◌}
 use native.Mathlib.Omega.{arith}
 use Rattle.walks.proofs.Founds.{unclaimed-most}
 use Rattle.spans.proofs.Tables.{counting-start, counting-wrong, counting-empty, counting-fell, counting-end, counting-next}
@@ -6,11 +5,6 @@ use Rattle.spans.proofs.walk_spans.Goals as goal
 
 pub loop-span-init : goal.loop-span-init
 loop-span-init c = let p = c.requires in counting-start _ _ _ _ _ p.2 p.3 p.0
-
-pub verify_span-requires : goal.verify_span-requires
-verify_span-requires c =
-    let l = c.loop-span.invariant in
-    (l.lent, l.met)
 
 pub returns-in_err-span : goal.returns-in_err-span
 returns-in_err-span c = rw c.from_residual.ensures (counting-wrong c.loop-span.invariant c.verify_span.ensures c.in_err-span.was)
@@ -39,12 +33,3 @@ loop-span-smaller c = (counting-fell c.loop-span.invariant c.verify_span.ensures
 
 pub loop-span-preserved : goal.loop-span-preserved
 loop-span-preserved c = counting-next c.loop-span.invariant c.verify_span.ensures c.in_ok-span.was (λ m z. omega (arith, m, z, c.else-span-eq0.either)) c.if-span-eq0-2.false (omega arith)
-
-pub shape_of-scratch-in_err-span : goal.shape_of-scratch-in_err-span
-shape_of-scratch-in_err-span c = (c.verify_span.auto.scratch ∙ c.loop-span.invariant.kept)
-
-pub shape_of-scratch-then-spans-ne0 : goal.shape_of-scratch-then-spans-ne0
-shape_of-scratch-then-spans-ne0 c = (c.verify_span.auto.scratch ∙ c.loop-span.invariant.kept)
-
-pub shape_of-scratch-then-span-eq0-2 : goal.shape_of-scratch-then-span-eq0-2
-shape_of-scratch-then-span-eq0-2 c = (c.verify_span.auto.scratch ∙ c.loop-span.invariant.kept)

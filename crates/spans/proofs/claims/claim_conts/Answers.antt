@@ -1,14 +1,7 @@
-use mathlib.Core.Path.{◌∙◌}
 use native.Mathlib.Omega.{arith}
 use Rattle.walks.proofs.Pieces.{claim-in-head, claim-head32, claim-falls}
-use Rattle.spans.proofs.PageClaims.{noting-start, noting-end, noting-no, noting-few, noting-next}
+use Rattle.spans.proofs.PageClaims.{noting-end, noting-no, noting-few, noting-next}
 use Rattle.spans.proofs.claims.claim_conts.Goals as goal
-
-pub loop-page-init : goal.loop-page-init
-loop-page-init c img lent = noting-start _ _ _ _ lent (omega arith)
-
-pub shape_of-scratch-then-not-claim : goal.shape_of-scratch-then-not-claim
-shape_of-scratch-then-not-claim c = let k = c.requires in c.claim.auto.scratch ∙ (c.loop-page.invariant k.0 k.1).claiming.kept
 
 pub returns-then-not-claim : goal.returns-then-not-claim
 returns-then-not-claim c img lent =
@@ -47,9 +40,6 @@ loop-page-preserved c img lent =
     let done = c.if-not-claim.false in
     noting-next w c.loop-page-test.true claim done c.note.ensures _
     (claim-head32 claim done w.claiming.lent (omega arith) (omega arith) c.head32-page.ensures).is
-
-pub shape_of-scratch : goal.shape_of-scratch
-shape_of-scratch c = let k = c.requires in (c.loop-page.invariant k.0 k.1).claiming.kept
 
 pub returns : goal.returns
 returns c img lent = noting-end (c.loop-page.invariant img lent) c.loop-page-test.false

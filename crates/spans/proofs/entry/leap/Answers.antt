@@ -1,9 +1,6 @@
 -- `spans::entry::leap` meets its contract: link after link, or by the index of the page.
-use Rattle.spans.proofs.Charts.{leap-enough, leap-paged, leap-moved}
+use Rattle.spans.proofs.Charts.{leap-paged, leap-moved}
 use Rattle.spans.proofs.entry.leap.Goals as goal
-
-pub place_after-requires : goal.place_after-requires
-place_after-requires c = let p = c.requires in leap-enough p.1 p.2
 
 pub nth_page-page-requires : goal.nth_page-page-requires
 nth_page-page-requires c = let p = c.requires in (_, (_, leap-paged p.1 p.2 c.if-n-le16256.false p.0))

@@ -11,9 +11,6 @@ try_entry-requires c = (skimming-enough c.loop.invariant.0, c.lengths_of-allowed
 pub loop-preserved : goal.loop-preserved
 loop-preserved c = (skimming-more c.loop.invariant.0 c.try_entry.ensures c.in-Some.is, omega arith)
 
-pub conclude-requires : goal.conclude-requires
-conclude-requires c = (c.args.sort, c.loop.invariant.0)
-
 pub returns : goal.returns
 returns c =
     let s = c.conclude.ensures c.args.sort c.loop.invariant.0 in

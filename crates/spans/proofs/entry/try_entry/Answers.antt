@@ -12,6 +12,6 @@ pub returns : goal.returns
 returns c =
     let p = c.requires in
     record {
-      is = here-read p.0 (omega arith) c.get16-key.ensures c.get16-value.ensures (omega arith) p.1 (omega arith) (omega arith) (λ i. omega (arith, c.shared_slice_known-1.given i))
+      is = here-read p.0 (omega arith) c.get16-key.ensures c.get16-value.ensures (omega arith) p.1 (omega arith) (omega arith) (λ i. omega (arith, c.type_inv.image i))
           c.rank-rank.ensures (omega arith);
     }

@@ -8,9 +8,6 @@ use Rattle.spans.proofs.entry.verify_entries.Goals as goal
 pub loop-i-init : goal.loop-i-init
 loop-i-init c = let p = c.requires in (walking_start _ p.1, omega arith, p.2, omega arith)
 
-pub skim-skimmed-requires : goal.skim-skimmed-requires
-skim-skimmed-requires c = walking-ready c.loop-i.invariant.0
-
 pub returns-then-size-i : goal.returns-then-size-i
 returns-then-size-i c =
     let v = c.loop-i.invariant in
@@ -39,15 +36,3 @@ loop-i-preserved c =
 
 pub returns : goal.returns
 returns c = let v = c.loop-i.invariant in walking-end v.0 (omega (arith, c.loop-i-test.false, v.1))
-
-pub overflow_add-i : goal.overflow_add-i
-overflow_add-i c = omega (arith, c.if-size-i.false, c.ranges)
-
-pub overflow_add-i-in-loop-i : goal.overflow_add-i-in-loop-i
-overflow_add-i-in-loop-i c = omega (arith, c.if-size-i.false, c.ranges, c.loop-i.invariant.1)
-
-pub overflow_sub-size-in-loop-i : goal.overflow_sub-size-in-loop-i
-overflow_sub-size-in-loop-i c = omega (arith, c.if-size-i.false)
-
-pub loop-i-smaller : goal.loop-i-smaller
-loop-i-smaller c = omega (arith, c.if-size-i.false)

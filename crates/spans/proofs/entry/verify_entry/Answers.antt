@@ -2,7 +2,7 @@
 use native.Mathlib.Omega.{arith}
 use mathlib.Core.Path.{refl}
 use Rattle.entries.proofs.Places.{gap-most}
-use Rattle.spans.proofs.Runs.{entry-short, entry-enough, entry-over, entry-keys, entry-not, entry-some, entry_done}
+use Rattle.spans.proofs.Runs.{entry-short, entry-over, entry-keys, entry-not, entry-some, entry_done}
 use Rattle.spans.proofs.Charts.{spread-on}
 use Rattle.spans.proofs.entry.verify_entry.Goals as goal
 
@@ -11,9 +11,6 @@ overflow_add-skipped c = omega (arith, c.gap-skipped.ensures, gap-most c.args.fr
 
 pub returns-then-left-skipped : goal.returns-then-left-skipped
 returns-then-left-skipped c = entry-short c.requires.1 c.gap-skipped.ensures c.if-left-skipped.true
-
-pub lengths-sizes-requires : goal.lengths-sizes-requires
-lengths-sizes-requires c = entry-enough c.requires.1 c.gap-skipped.ensures c.if-left-skipped.false
 
 pub returns-then-left-skipped-2 : goal.returns-then-left-skipped-2
 returns-then-left-skipped-2 c = entry-over c.requires.1 c.gap-skipped.ensures c.lengths-sizes.ensures c.if-left-skipped.false c.if-left-skipped-2.true

@@ -4,20 +4,11 @@ use Rattle.heads.proofs.Claims.{head16-read, head32-read}
 use Rattle.spans.proofs.Readings.{span-ready, span-spread, span-in-head, read-other, read-max, read-over, read-bad, read-spare, read_done}
 use Rattle.spans.proofs.span.read_span.Goals as goal
 
-pub head32-requires : goal.head32-requires
-head32-requires c = let p = c.requires in span-in-head p.1 p.0 (omega arith)
-
 pub returns-then-head32-previous : goal.returns-then-head32-previous
 returns-then-head32-previous c = read-other c.requires.1 _ _ (let p = c.requires in head32-read p.0 (span-in-head p.1 p.0 (omega arith)) (omega arith) c.head32.ensures) c.if-head32-previous.true
 
-pub head16-requires : goal.head16-requires
-head16-requires c = let p = c.requires in span-in-head p.1 p.0 (omega arith)
-
 pub returns-then-head16-most : goal.returns-then-head16-most
 returns-then-head16-most c = read-max c.requires.1 _ _ (let p = c.requires in head16-read p.0 (span-in-head p.1 p.0 (omega arith)) (omega arith) c.head16.ensures) c.if-head16-most.true
-
-pub head16-size-requires : goal.head16-size-requires
-head16-size-requires c = let p = c.requires in span-in-head p.1 p.0 (omega arith)
 
 pub returns-then-most-size : goal.returns-then-most-size
 returns-then-most-size c = read-over c.requires.1 _ _ (let p = c.requires in head16-read p.0 (span-in-head p.1 p.0 (omega arith)) (omega arith) c.head16-size.ensures) c.if-most-size.true
@@ -30,11 +21,6 @@ returns-in_err-end c = rw c.from_residual.ensures (read-bad c.requires.1 _ _ (le
 
 pub returns-then-end-ge1016 : goal.returns-then-end-ge1016
 returns-then-end-ge1016 c = read-spare c.requires.1 _ _ (let p = c.requires in head16-read p.0 (span-in-head p.1 p.0 (omega arith)) (omega arith) c.head16-size.ensures) c.verify_entries.ensures c.in_ok-end.was c.if-end-ge1016.true
-
-pub head32-requires-2 : goal.head32-requires-2
-head32-requires-2 c =
-    let p = c.requires in
-    span-in-head p.1 p.0 (omega arith)
 
 pub returns : goal.returns
 returns c =
