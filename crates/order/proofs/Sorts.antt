@@ -43,10 +43,6 @@ sort-hash b h = rw (eq-eqb b 0x23 h)
 pub sort-other : (b : ℕ) → (b ≡ 0x23 → ⊥) → Bytes ≡ cond (eqb b 0x23) Numbers Bytes
 sort-other b h = rw (ne_eqb b 0x23 h)
 
-pub sort-none : (k : List ℕ) → length k ≡ 0 → Bytes ≡ table_sort k
-sort-none [] e = refl
-sort-none (x ∷ k) e = absurd (omega arith)
-
 pub sort-some : (k : List ℕ) {x : ℕ} {s : Sort} → 0 < length k → x ≡ get_or k 0 0 → s ≡ cond (eqb x 0x23) Numbers Bytes → s ≡ table_sort k
 sort-some [] h e p = absurd (omega arith)
 sort-some (y ∷ k) h e p = p ∙ ap (λ (z : ℕ). cond (eqb z 0x23) Numbers Bytes) e

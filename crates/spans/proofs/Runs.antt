@@ -18,7 +18,8 @@ use Rattle.pages.specs.Places.{Number}
 use Rattle.entries.specs.declared.place.Place.{Place}
 use Rattle.entries.specs.declared.place.Sizes.{Sizes}
 use Rattle.std.specs.declared.cmp.Ordering.{Ordering}
-use Rattle.std.specs.declared.cmp.Ordering.TheVariants.{Less}
+use Rattle.std.specs.declared.cmp.Ordering.TheVariants.{Less, Equal, Greater}
+use Rattle.std.specs.Ordering.{is_lt}
 use Rattle.order.specs.declared.sort.Sort.{Sort}
 use Rattle.order.specs.declared.sort.Sort.TheVariants.{Bytes, Numbers}
 use Rattle.order.specs.declared.sort.Lengths.{Lengths}
@@ -72,12 +73,14 @@ four-taken (a ∷ b ∷ c ∷ d ∷ s) h = refl
 -- ---- a key and the last key met
 
 -- by bytes
-module _ {img : List ℕ} {l : Last} {at : Place} {n : ℕ} {o : Ordering} (c : Compared img l.at l.length at n o) where
-  pub bytes-above : o ≡ Less → IsAbove Bytes img l at n true
-  bytes-above e = record { is = λ low k u v. sym (so (bytes_below low k) (less-below low k (sym (c.is low k u.there v) ∙ e))) }
+module _ {img : List ℕ} {l : Last} {at : Place} {n : ℕ} where
+  not-above : {o : Ordering} → Compared img l.at l.length at n o → (o ≡ Less → ⊥) → IsAbove Bytes img l at n false
+  not-above c d = record { is = λ low k u v. sym (not_so (bytes_below low k) (λ h. d (c.is low k u.there v ∙ below_less low k h))) }
 
-  pub not-bytes-above : (o ≡ Less → ⊥) → IsAbove Bytes img l at n false
-  not-bytes-above d = record { is = λ low k u v. sym (not_so (bytes_below low k) (λ h. d (c.is low k u.there v ∙ below_less low k h))) }
+  pub bytes-above : (o : Ordering) → Compared img l.at l.length at n o → IsAbove Bytes img l at n (is_lt o)
+  bytes-above Less c = record { is = λ low k u v. sym (so (bytes_below low k) (less-below low k (sym (c.is low k u.there v)))) }
+  bytes-above Equal c = not-above c (λ e. let z : ◌≡◌ {A = ℕ} 0 1 = cc in omega arith)
+  bytes-above Greater c = not-above c (λ e. let z : ◌≡◌ {A = ℕ} 0 1 = cc in omega arith)
 
 -- as numbers
 pub four-enough : {img : List ℕ} {at : Place} {n : ℕ} → Key img at n → n ≡ 4 → Enough img at 4

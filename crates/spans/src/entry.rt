@@ -17,7 +17,6 @@ use heads::claim::head32;
 use order::sort::{Lengths, Sort, lengths_of, turned};
 use pages::read::get16;
 use reader::place_after;
-use std::cmp::Ordering;
 
 // The pages of a span as its entries are read: the image, its heads, the chart of the continuation pages, and how many these are.
 #[derive(Clone, Copy)]
@@ -73,14 +72,7 @@ fn above_bytes(image: &[u8], last: Last, at: Place, key: usize) -> bool
     requires { Met Bytes image.now last × Key image.now at key }
     ensures { IsAbove Bytes image.now last at key result }
 {
-    let before = last.at;
-    let length = last.length;
-    let order = compare_keys(image, before, length, at, key);
-    match order {
-        Ordering::Less => true,
-        Ordering::Equal => false,
-        Ordering::Greater => false,
-    }
+    compare_keys(image, last.at, last.length, at, key).is_lt()
 }
 
 // Whether a key is a number above the last key met.
