@@ -38,8 +38,8 @@ fn leave(image: &mut [u8], scratch: &mut [u8], root: usize, page: usize, index: 
 }
 
 // Removes the key from the table; `free` pages are free. Answers how many are free after it; if the key is not there it is none, and
-// nothing changes. The scratch is as long as the image. The path is strictly below the key: a span that goes has that key alone, so the path has the
-// towers before it, and the span where the key belongs is found from any tower before.
+// nothing changes. The scratch is as long as the image. The path is strictly below the key: a span that goes has that key alone, so
+// the path has the towers before it, and the span where the key belongs is found from any tower before.
 pub fn remove(
     image: &mut [u8],
     scratch: &mut [u8],

@@ -49,7 +49,7 @@ pub enum Next {
     Old(Sizes, Cursor),
 }
 
-// Where the key belongs in the span on the page: the index of the entry that has it, or that of the first one above it.
+// Where the key belongs in the span on the page: `Ok` has the index of the entry with the key, `Err` the number of entries below it.
 pub fn find_spot(image: &[u8], page: usize, sort: Sort, key: &[u8]) -> Result<usize, usize>
     requires { SpanBy image.now page sort }
     ensures { SpottedOn image.now page sort key.now result }
@@ -63,7 +63,7 @@ pub fn find_spot(image: &[u8], page: usize, sort: Sort, key: &[u8]) -> Result<us
     }
 }
 
-// The change that puts a key in at its spot: an entry that has the key gives way.
+// The change that puts a key in at the spot that `find_spot` answers: an entry that has the key gives way.
 pub fn put_change(spot: Result<usize, usize>) -> Change
     ensures { result ≡ put_at spot }
 {
