@@ -5,13 +5,13 @@ use native.Mathlib.Decide.{dec_lt}
 use mathlib.Core.Path.{◌≡◌, refl, ap, sym, ◌∙◌, subst}
 use mathlib.Core.Logic.{by_cases}
 use mathlib.Core.List.{List}
-use lib.ListN.{length, drop, get_or, set, length-drop, length-set}
-use lib.Seq.{drop-drop, get_or-set_same, get_or-set_other}
+use lib.ListN.{length, drop, length-drop}
+use lib.Seq.{drop-drop}
 use Rattle.std.proofs.Common.{Some}
 use Rattle.heads.specs.Claims.{Lent, InHead, head32}
 use Rattle.heads.proofs.Claims.{in_head, head32-is}
 use Rattle.entries.specs.declared.place.Place.{Place}
-use Rattle.entries.specs.Places.{Rest, Enough, Moved}
+use Rattle.entries.specs.Places.{Rest, Moved}
 use Rattle.entries.proofs.Rests.{rest-one, rest_in, rest-next}
 use Rattle.spans.specs.declared.entry.Last.{Last}
 use Rattle.spans.specs.declared.entry.Position.{Position}
@@ -23,17 +23,6 @@ use Rattle.spans.specs.Charts.{along, Charted, Noted, Paged, Spread}
 
 pub charted-none : (img : List ℕ) (p : ℕ) (chart : List ℕ) → length chart ≡ 256 → Charted img p 0 chart
 charted-none img p chart l = record { long = l; pages = λ i h. absurd (omega arith) }
-
-pub noted_here : {chart : List ℕ} {index : ℕ} (page : ℕ) → length chart ≡ 256 → index < 4096 → index % 16 ≡ 0 → Noted chart index page (set chart (index / 16) page)
-noted_here {chart} {index} page l few e =
-    record {
-      long = length-set chart (index / 16) page;
-      here = λ i h. let is : index / 16 ≡ i = omega arith in rw is (get_or-set_same chart i page 0 (omega arith));
-      kept = λ i h. get_or-set_other chart (index / 16) i page 0 (omega arith);
-    }
-
-pub noted-not : {chart : List ℕ} {index page : ℕ} → (index % 16 ≡ 0 → ⊥) → Noted chart index page chart
-noted-not e = record { long = refl; here = λ i h. absurd (e (omega arith)); kept = λ i h. refl }
 
 pub charted-next : {img : List ℕ} {p n : ℕ} {old new : List ℕ} {q : ℕ} → Charted img p n old → q ≡ along img p n → Noted old n q new → Charted img p (n + 1) new
 charted-next {img} {p} {n} c is w =
@@ -93,9 +82,6 @@ module _ {img chart : List ℕ} {more : ℕ} {at : Place} {left : ℕ} (s : Spre
   -- ---- Found by the chart
 
   module _ {n : ℕ} (within : n ≤ left) where
-    pub leap-enough : Enough img at n
-    leap-enough = record { bytes = s.bytes; rest = s.rest; long = omega (arith, s.long) }
-
     module _ (far : 16256 < n) where
       abbrev pub passed : ℕ
       passed = 1016 * more - (left - n)
@@ -146,18 +132,9 @@ module _ {img chart : List ℕ} {more : ℕ} {at : Place} {left : ℕ} (s : Spre
 -- ---- A continuation page by its index: the loop along the heads, from the page of the chart on
 
 module _ {scr chart img : List ℕ} {p index : ℕ} (w : Paged scr chart img p index) where
-  -- the chart has the page that the loop starts from
-  pub paged-few : index < 4096
-  paged-few = omega (arith, w.there, w.few)
-
   -- the page that k links lead to from there
   abbrev pub on : ℕ → ℕ
   on k = along img p (16 * (index / 16) + k)
-
-  pub paged-start : get_or chart (index / 16) 0 ≡ on 0
-  paged-start =
-      let e : 16 * (index / 16) ≡ 16 * (index / 16) + 0 = omega arith in
-      w.charted.pages (index / 16) (omega (arith, w.there)) ∙ ap (along img p) e
 
   pub paged-here : {k : ℕ} → k < index % 16 → InHead scr (on k) 4 4
   paged-here {k} l = let i = w.inside (16 * (index / 16) + k) (omega arith) in in_head w.lent i.low i.high (omega arith)
@@ -166,6 +143,3 @@ module _ {scr chart img : List ℕ} {p index : ℕ} (w : Paged scr chart img p i
   paged-next {k} l e is =
       let sum : suc (16 * (index / 16) + k) ≡ 16 * (index / 16) + (k + 1) = omega arith in
       is ∙ ap (λ (n : ℕ). head32 scr n 4) e ∙ head32-is w.lent (paged-here l) (omega arith) ∙ ap (along img p) sum
-
-  pub paged-end : {k page : ℕ} → k ≡ index % 16 → page ≡ on k → page ≡ along img p index
-  paged-end {k} z e = let sum : 16 * (index / 16) + k ≡ index = omega arith in e ∙ ap (along img p) sum

@@ -21,7 +21,7 @@ use Rattle.std.proofs.Common.{Option, Some, None}
 use Rattle.std.proofs.lemmas.Option.{none-some, same_Some}
 use Rattle.spans.specs.Charts.{along, Charted, Noted}
 use Rattle.spans.specs.Parts.{ContsFound, PagesFound, ContsClaimed, PagesClaimed}
-use Rattle.spans.proofs.Charts.{charted-none, charted-next}
+use Rattle.spans.proofs.Charts.{charted-next}
 
 -- ---- a claim
 
@@ -119,9 +119,6 @@ pub record Noting (img scr₀ : List ℕ) (start : ℕ) (scr chart : List ℕ) (
   pub claiming : Claiming img scr₀ start scr p n
   pub charted : Charted img start n chart
   pub on : p ≡ along img start n
-
-pub noting-start : (img scr chart : List ℕ) (start : ℕ) → Lent img scr → length chart ≡ 256 → Noting img scr start scr chart start 0
-noting-start img scr chart start lent l = record { claiming = claiming-start img scr start lent; charted = charted-none img start chart l; on = refl }
 
 module _ {img scr₀ : List ℕ} {start : ℕ} {scr chart : List ℕ} {p n : ℕ} (w : Noting img scr₀ start scr chart p n) where
   pub noting-end : p ≡ 0 → ContsClaimed img scr₀ start (Some n) scr chart

@@ -9,7 +9,7 @@ use mathlib.Core.List.{List, [], ◌∷◌}
 use lib.ListN.{length, take, drop, get_or, length-drop}
 use lib.Seq.{drop-drop}
 use lib.Dec.{T, ltb, eqb→eq}
-use borrow.Author.Tests.{ltb-true, ltb-false, eq-eqb, ne_eqb}
+use borrow.Author.Tests.{ltb-true, ltb-false, eq-eqb}
 use Rattle.std.proofs.Common.{Option, Some, None}
 use Rattle.blockfile.specs.Bytes.{pg, be16, be32}
 use Rattle.blockfile.specs.Order.{bytes_below, numbers_below}
@@ -25,7 +25,7 @@ use Rattle.order.specs.declared.sort.Sort.TheVariants.{Bytes, Numbers}
 use Rattle.order.specs.declared.sort.Lengths.{Lengths}
 use Rattle.order.specs.Sorts.{rule_as, turned, LengthsAre}
 use Rattle.order.proofs.Orders.{less-below, below_less}
-use Rattle.order.proofs.Sorts.{some_below, below-some}
+use Rattle.order.proofs.Sorts.{some_below}
 use Rattle.order.proofs.Numbers.{numbers-turned, rank_below}
 use Rattle.entries.specs.Places.{Rest, Enough, Moved, gap, Measured, Numbered}
 use Rattle.entries.specs.Keys.{KeyAt, Key, Compared}
@@ -38,7 +38,7 @@ use Rattle.spans.specs.declared.entry.Last.{Last}
 use Rattle.spans.specs.declared.entry.Position.{Position}
 use Rattle.spans.specs.declared.entry.Tried.{Tried}
 use Rattle.spans.specs.declared.entry.Passed.{Passed}
-use Rattle.spans.specs.Entries.{fits, four_as, LastIs, Met, IsAbove, skip, key_length, value_length, key_of, taken, Run, Ready, Ended, Ends, position, Entering, on_page, last_at, ReadOnPage, Tries, Skimming, Skims}
+use Rattle.spans.specs.Entries.{fits, four_as, LastIs, Met, IsAbove, skip, key_length, value_length, key_of, taken, Run, Ready, Ended, Ends, position, Entering, on_page, last_at, ReadOnPage, Tries, Skimming}
 use Rattle.spans.proofs.Sorts.{fits-key, both-fit}
 use Rattle.spans.proofs.Rules.{allowed-four, four-allowed, lengths-allow}
 
@@ -82,16 +82,8 @@ module _ {img : List ℕ} {l : Last} {at : Place} {n : ℕ} where
   bytes-above Equal c = not-above c (λ e. let z : ◌≡◌ {A = ℕ} 0 1 = cc in omega arith)
   bytes-above Greater c = not-above c (λ e. let z : ◌≡◌ {A = ℕ} 0 1 = cc in omega arith)
 
--- as numbers
-pub four-enough : {img : List ℕ} {at : Place} {n : ℕ} → Key img at n → n ≡ 4 → Enough img at 4
-four-enough k four = let a = k.there in record { bytes = a.bytes; rest = a.rest (omega arith); long = omega (arith, a.long) }
-
 last-four : {img : List ℕ} {l : Last} → Met Numbers img l → (l.length ≡ 0 → ⊥) → l.length ≡ 4
 last-four {l = l} m some = eqb→eq l.length 4 (m.key.four (omega (arith, some)))
-
-pub last-enough : {img : List ℕ} {l : Last} → Met Numbers img l → (l.length ≡ 0 → ⊥) → Enough img l.at 4
-last-enough m some =
-    let a = m.key.there in record { bytes = a.bytes; rest = a.rest (omega (arith, some)); long = omega (arith, a.long, last-four m some) }
 
 -- the number of four bytes is that of a key there
 number_is : {img : List ℕ} {p : Place} {n r : ℕ} → Numbered img p r → n ≡ 4 → (k : List ℕ) → KeyAt img p n k → r ≡ be32 k 0
@@ -103,19 +95,6 @@ nothing [] e = refl
 nothing (y ∷ x) e = absurd (omega arith)
 
 module _ {img : List ℕ} {l : Last} {at : Place} {n : ℕ} where
-  pub not-four : (n ≡ 4 → ⊥) → IsAbove Numbers img l at n false
-  not-four d = record { is = λ low k u v. rw (ne_eqb n 4 d) }
-
-  -- the first key of all
-  pub first_above : n ≡ 4 → l.length ≡ 0 → IsAbove Numbers img l at n true
-  first_above four none =
-      record {
-        is = λ low k u v.
-            let e : low ≡ [] = nothing low (key-length u.there ∙ none) in
-            let t : T (numbers_below low k) = subst (λ (x : List ℕ). T (numbers_below x k)) (sym e) (below-some Numbers k (omega (arith, key-length v))) in
-            rw (eq-eqb n 4 four, so (numbers_below low k) t);
-      }
-
   module _ (bytes : (i : ℕ) → get_or img i 0 < 256) (four : n ≡ 4) (m : Met Numbers img l) (some : l.length ≡ 0 → ⊥) {x y : ℕ} (a : Numbered img l.at x)
       (b : Numbered img at y) where
     numbers-order : (low k : List ℕ) → LastIs Numbers img l low → KeyAt img at n k → numbers_below low k ≡ ltb (turned x) (turned y)
@@ -130,9 +109,6 @@ module _ {img : List ℕ} {l : Last} {at : Place} {n : ℕ} where
 module _ {img : List ℕ} {l : Last} {at : Place} {n : ℕ} {r : Bool} where
   pub above_as : (s : Sort) {t : Sort} → s ≡ t → IsAbove t img l at n r → IsAbove s img l at n r
   above_as s e c = subst (λ (x : Sort). IsAbove x img l at n r) (sym e) c
-
-pub met-as : {s t : Sort} {img : List ℕ} {l : Last} → s ≡ t → Met s img l → Met t img l
-met-as {img = img} {l} e m = subst (λ (x : Sort). Met x img l) e m
 
 -- by the rank
 pub rank-is-above : {sort : Sort} {img : List ℕ} (bytes : (i : ℕ) → get_or img i 0 < 256) {l : Last} {at : Place} {n p : ℕ} → 0 < n → T (four_as sort n)
@@ -162,9 +138,6 @@ module _ {sort : Sort} {img : List ℕ} {at : Place} {left : ℕ} {l : Last} (r 
     pub entry-short : left < g + 4 → Entering sort img at l 1 None
     unfolding taken
     entry-short h = all_of 1 None (λ t hi x. omega (arith, x.0, g-is, r.long))
-
-    pub entry-enough : g + 4 ≤ left → Enough img at (gap at.offset 4 + 4)
-    entry-enough h = record { bytes = r.bytes; rest = r.rest; long = omega (arith, is, r.long) }
 
     module _ {z : Sizes} (m : Measured img at z) (room : g + 4 ≤ left) where
       k-is : z.key ≡ key_length r.bytes
@@ -394,31 +367,5 @@ module _ {sort : Sort} {img : List ℕ} {at : Place} {left : ℕ} {last : Last} 
 
 -- what is told of them
 module _ {sort : Sort} {img : List ℕ} {at : Place} {left : ℕ} {last : Last} {p : Passed} (w : Skimming sort img at left last p) where
-  pub skims-none : p.count ≡ 0 → Skims sort img at last p.count (record { count = p.count; to = position at left last })
-  skims-none e =
-      let n = w.none e in
-      let same : left - (p.end - at.offset) ≡ left = omega (arith, n.0) in
-      record {
-        few = omega arith;
-        read = subst (λ (k : Last). Entering sort img at last p.count (Some (position at left k))) n.1
-            (subst (λ (o : ℕ). Entering sort img at last p.count (Some (position (on_page at o) left w.key))) n.0
-            (subst (λ (m : ℕ). Entering sort img at last p.count (Some (position (on_page at p.end) m w.key))) same w.read));
-      }
-
   pub skims-left : p.end - at.offset ≤ left
   skims-left = omega (arith, w.high, w.start.long, rest-length img at w.start.bytes w.start.rest)
-
-  module _ (some : p.count ≡ 0 → ⊥) where
-    pub skims-there : (at.offset ≤ p.before) × (p.before + 4 ≤ p.end) × (p.end ≤ 1024)
-    skims-there = let s = w.some (omega (arith, some)) in (s.0, s.1, w.high)
-
-    pub skims-some : {n : ℕ} → n ≡ be16 (pg img at.page) p.before
-        → Skims sort img at last p.count
-        (record { count = p.count; to = position (on_page at p.end) (left - (p.end - at.offset)) (record { at = on_page at (p.before + 4); length = n; rank = p.rank }) })
-    skims-some {n} is =
-        let s = w.some (omega (arith, some)) in
-        record {
-          few = omega arith;
-          read = subst (λ (k : Last). Entering sort img at last p.count (Some (position (on_page at p.end) (left - (p.end - at.offset)) k)))
-              (s.2 ∙ (λ i. record { at = on_page at (p.before + 4); length = sym is i; rank = p.rank })) w.read;
-        }

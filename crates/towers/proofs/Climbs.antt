@@ -23,7 +23,7 @@ use Rattle.std.proofs.Common.{Option as Answer, Some, None}
 use Rattle.std.proofs.lemmas.Option.{none-some, same_Some}
 use Rattle.walks.specs.Found.{Open, unclaimed, Found, Decides, FindsAt}
 use Rattle.walks.proofs.Founds.{SameAt, same_start, same_turn, finds-none, finds-done, found_none, claimable-open, unclaimed-claimed, length-claimed}
-use Rattle.walks.proofs.Pieces.{Single, found-claimable, found-rest, found-cons, claim-done, claim-not}
+use Rattle.walks.proofs.Pieces.{Single, found-claimable, found-rest, found-cons, claim-done}
 use Rattle.towers.specs.Climb.{level_at, AllAre, entry_at, Followed, next_span, Way, Linked, Reach, Tall, span_under, TowerFound, Placed, ClimbOn, Climb}
 use Rattle.towers.proofs.Levels.{lowest-is}
 use Rattle.towers.proofs.Ways.{next-is, reach-linked}
@@ -35,9 +35,6 @@ unfolding tower_mark
 tower-single img x = record { page = refl; mark = λ b. take_begins tower_mark (pg img x.tower.page) b.mark }
 
 module _ (img scr : List ℕ) (lo hi n : ℕ) (r : Bool) (s : List ℕ) (c : Claimed img scr n 2 r s) where
-  pub tower-no : r ≡ false → FindsAt Some (TowerFound img scr lo hi n) None s
-  tower-no e = finds-none (same_start (TowerFound img scr lo hi n)) (λ m t f. true≢false (sym f.can ∙ claim-not img scr n 2 r s c e))
-
   module _ (e : r ≡ true) where
     module _ (h max : ℕ) (h-is : h ≡ be16 (pg img n) 10) (max-is : max ≡ be16 (pg img n) 8) (q : Bool) (d : Decides (Tall lo hi max h) q) where
       pub tower-not : q ≡ false → FindsAt Some (TowerFound img scr lo hi n) None s
@@ -78,9 +75,6 @@ module _ (img scr : List ℕ) (top : ℕ) (levels : List ℕ) (p n : ℕ) (a : A
   placed-none : ((m : ℕ) (t : List ℕ) → Placed img scr top levels p n m t → ⊥) → PlacedIs None
   placed-none f = finds-none (same_start (Placed img scr top levels p n)) f
 
-  pub placed-no : a ≡ None → PlacedIs None
-  placed-no e = placed-none (λ m t f. none-some m (sym e ∙ (c.complete m t f.found).0))
-
   module _ (h : ℕ) (e : a ≡ Some h) where
     module _ (span : ℕ) (span-is : span ≡ span_under img n) (q : Bool) (d : Decides (Reach img p span) q) where
       pub placed_off : q ≡ false → PlacedIs None
@@ -89,9 +83,6 @@ module _ (img scr : List ℕ) (top : ℕ) (levels : List ℕ) (p n : ℕ) (a : A
       module _ (b : Bool) (w : Decides (AllAre levels h n) b) where
         same-height : (m : ℕ) (t : List ℕ) → Placed img scr top levels p n m t → m ≡ h
         same-height m t x = same_Some m h (sym (c.complete m t x.found).0 ∙ e)
-
-        pub placed-not : b ≡ false → PlacedIs None
-        placed-not f = placed-none (λ m t x. true≢false (sym (w.complete (subst (λ (y : ℕ). AllAre levels y n) (same-height m t x) x.expected)) ∙ f))
 
         pub placed-done : q ≡ true → b ≡ true → PlacedIs (Some h)
         placed-done f g =

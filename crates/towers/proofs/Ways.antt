@@ -77,9 +77,6 @@ pub record Reaching (img : List ℕ) (start target p : ℕ) : Type 0 where
   pub to : Reach img p target → Reach img start target
   pub back : Reach img start target → Reach img p target
 
-pub reaching-start : (img : List ℕ) (start target : ℕ) → Linked img start → Reaching img start target start
-reaching-start img start target k = record { linked = k; to = λ r. r; back = λ r. r }
-
 module _ {img scr : List ℕ} (lent : Lent img scr) (start target p : ℕ) (v : Reaching img start target p) where
   pub reaching-end : p ≡ 0 → Decides (Reach img start target) false
   reaching-end z = decides-false (λ r. let s = v.back r in go s.passed s.way s.low)

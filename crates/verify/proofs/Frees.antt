@@ -70,12 +70,6 @@ pub record Listing (img scr₀ scr : List ℕ) (p count i : ℕ) : Type 0 where
 abbrev pub ListedIs : (img scr₀ : List ℕ) (p count : ℕ) (r : Bool) (out : List ℕ) → Type 0
 ListedIs img scr₀ p count r out = FindsAt {A = Unit {0}} (λ u. true) (λ u. ListedFound img scr₀ p 16 count) r out
 
-pub listing_start : (img scr : List ℕ) (p count : ℕ) → Lent img scr → Listing img scr scr p count 0
-listing_start img scr p count lent =
-    let a : 16 + 4 * 0 ≡ 16 = omega arith in
-    let b : count - 0 ≡ count = omega arith in
-    record { most = omega arith; long = refl; lent = lent; same = rw (a, b) (same_start (λ u. ListedFound img scr p 16 count)) }
-
 module _ (img scr₀ scr : List ℕ) (p count i : ℕ) (v : Listing img scr₀ scr p count i) where
   pub listing-end : (i < count → ⊥) → ListedIs img scr₀ p count true scr
   listing-end h =
@@ -268,9 +262,6 @@ pub record Freeing (img scr₀ : List ℕ) (start : ℕ) (scr : List ℕ) (p n :
   pub lent : Lent img scr
   pub used : n + unclaimed scr ≡ unclaimed scr₀
   pub same : SameAt (FreeFound img scr p n) (FreeFound img scr₀ start 0)
-
-pub freeing-start : (img scr : List ℕ) (start : ℕ) → Lent img scr → Freeing img scr start scr start 0
-freeing-start img scr start lent = record { long = refl; lent = lent; used = omega arith; same = same_start (FreeFound img scr start 0) }
 
 module _ (img scr₀ : List ℕ) (start : ℕ) (scr : List ℕ) (p n : ℕ) (v : Freeing img scr₀ start scr p n) where
   pub freeing-end : p ≡ 0 → FindsAt Some (FreeFound img scr₀ start 0) (Some n) scr

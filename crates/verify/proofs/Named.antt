@@ -247,20 +247,6 @@ pub record Naming (img scr₀ : List ℕ) (es : List Entry) (before : ℕ) (scr 
   pub few : keys + 128 * unclaimed scr ≤ before + 128 * unclaimed scr₀
   pub same : SameAt (TablesFound img scr rest keys) (TablesFound img scr₀ es before)
 
-pub naming-start : (img scr : List ℕ) (page before : ℕ) → Lent img scr → (es : List Entry) → NamesOn img page es → (n : ℕ) → n ≡ be16 (pg img page) 18
-    → Naming img scr es before scr (record { page = page; offset = 20 }) n before
-naming-start img scr page before lent es h n e =
-    record {
-      rest = es;
-      along = h.along;
-      count = e ∙ h.count;
-      some = h.some;
-      long = refl;
-      lent = lent;
-      few = omega arith;
-      same = same_start (TablesFound img scr es before);
-    }
-
 module _ {img scr₀ : List ℕ} {es : List Entry} {before : ℕ} {scr : List ℕ} {at : Place} {left keys : ℕ} (v : Naming img scr₀ es before scr at left keys) where
   pub naming-end : left ≡ 0 → FindsAt Some (TablesFound img scr₀ es before) (Some keys) scr
   naming-end z = go v.rest v.count v.same

@@ -72,20 +72,6 @@ module _ (img scr : List ℕ) where
         (sym (found-claimable img scr (superblock (pages_in scr) a f.size) 1 0 (super-single img _ _ _) [] t f.found) ∙ claim-not img scr 1 0 r s c e))
 
     module _ (e : r ≡ true) (n : ℕ) (is : n ≡ pages_in scr) (q : Bool) (d : Decides (Fixed n (pg img 1)) q) where
-      pub super-unfixed : q ≡ false → FindsAt Some (SuperFound img scr) None s
-      super-unfixed h =
-          none s (λ a t f.
-          let i : IsSuperblock (pages_in scr) a f.size (pg img 1) = fields a t f in
-          true≢false
-          (sym (d.complete (subst (λ (m : ℕ). Fixed m (pg img 1)) (sym is) (record { major = i.major; minor = i.minor; file_length = i.file_length; page_size = i.page_size })))
-          ∙ h))
-
-      pub super-mounted : 1 < be16 (pg img 1) 20 → FindsAt Some (SuperFound img scr) None s
-      super-mounted h = none s (λ a t f. let i = fields a t f in omega (arith, i.mounted))
-
-      pub super-size : (Within 2 128 (be16 (pg img 1) 22) → ⊥) → FindsAt Some (SuperFound img scr) None s
-      super-size h = none s (λ a t f. let i = fields a t f in h (subst (Within 2 128) (sym i.span_size) f.range))
-
       pub super-done : q ≡ true → be16 (pg img 1) 20 ≤ 1 → (a : ℕ) → a ≡ be32 (pg img 1) 16 → (z : ℕ) → z ≡ be16 (pg img 1) 22 → Within 2 128 z
           → FindsAt Some (SuperFound img scr) (Some a) s
       unfolding super_mark

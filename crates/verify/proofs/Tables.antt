@@ -188,9 +188,6 @@ module _ (sort : Sort) (img scr : List ℕ) (root : ℕ) where
         ∙ claim-not img scr root 1 b s c e))
 
     module _ (e : b ≡ true) where
-      pub table-size : (Within 2 128 (be16 (pg img root) 28) → ⊥) → FindsAt Some Tab None s
-      table-size n = no_table s (λ m t f. n (subst (Within 2 128) (sym (on-root m t f).span_size) f.ok.span_size))
-
       module _ (z : ℕ) (is : z ≡ be16 (pg img root) 28) (r : Answer Tally) (u : List ℕ)
           (g : FindsAt Some (ColumnsFound sort img s root z) r u) where
         -- the columns of a table that is found
