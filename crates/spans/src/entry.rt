@@ -234,7 +234,8 @@ fn skim(image: &[u8], from: Position, size: usize, sort: Sort) -> Skimmed
         end: from.at.offset,
         rank: from.last.rank,
     };
-    for _ in 0..size {
+    // By hand: the count is a part of what is told, and a range would keep a second one beside it.
+    while passed.count < size {
         let here = Place {
             page,
             offset: passed.end,
