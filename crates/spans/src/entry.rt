@@ -220,11 +220,12 @@ fn conclude(image: &[u8], from: Position, passed: Passed) -> Skimmed
     Skimmed { count, to }
 }
 
-// Reads entries, at most `size` of them, up to one that does not lie on the page whole or whose rank does not tell its order. Only
-// offsets, a count and the rank change from entry to entry, so that all of it stays in registers; the rest is told at the end.
-fn skim(image: &[u8], from: Position, size: usize, sort: Sort) -> Skimmed
+// Passes entries, at most `size` of them, up to one that does not lie on the page whole or whose rank does not tell its order. Only
+// offsets, a count and the rank change from entry to entry; in a function of its own all of it stays in registers.
+#[inline(never)]
+fn pass(image: &[u8], from: Position, size: usize, sort: Sort) -> Passed
     requires { Ready sort image.now from.at from.left from.last }
-    ensures { Skims sort image.now from.at from.last size result }
+    ensures { Skimming sort image.now from.at from.left from.last result × (result.count ≤ size) }
 {
     let allowed = lengths_of(sort);
     let page = from.at.page;
@@ -234,8 +235,7 @@ fn skim(image: &[u8], from: Position, size: usize, sort: Sort) -> Skimmed
         end: from.at.offset,
         rank: from.last.rank,
     };
-    // By hand: the count is a part of what is told, and a range would keep a second one beside it.
-    while passed.count < size {
+    for _ in 0..size {
         let here = Place {
             page,
             offset: passed.end,
@@ -250,7 +250,15 @@ fn skim(image: &[u8], from: Position, size: usize, sort: Sort) -> Skimmed
             rank: entry.rank,
         };
     }
-    conclude(image, from, passed)
+    passed
+}
+
+// Reads entries, at most `size` of them, up to one that cannot be passed.
+fn skim(image: &[u8], from: Position, size: usize, sort: Sort) -> Skimmed
+    requires { Ready sort image.now from.at from.left from.last }
+    ensures { Skims sort image.now from.at from.last size result }
+{
+    conclude(image, from, pass(image, from, size, sort))
 }
 
 // How many of the `left` entries that follow a key of this rank are skimmed: none where the key before has the same rank, since the
