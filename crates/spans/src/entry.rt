@@ -253,11 +253,14 @@ fn pass(image: &[u8], from: Position, size: usize, sort: Sort) -> Passed
     passed
 }
 
-// Reads entries, at most `size` of them, up to one that cannot be passed.
+// Reads entries, at most `size` of them, up to one that cannot be passed. Where none is to be passed, none is tried.
 fn skim(image: &[u8], from: Position, size: usize, sort: Sort) -> Skimmed
     requires { Ready sort image.now from.at from.left from.last }
     ensures { Skims sort image.now from.at from.last size result }
 {
+    if size == 0 {
+        return Skimmed { count: 0, to: from };
+    }
     conclude(image, from, pass(image, from, size, sort))
 }
 

@@ -1,5 +1,10 @@
 use native.Mathlib.Omega.{arith}
+use mathlib.Core.Path.{refl}
+use Rattle.spans.proofs.Runs.{walking_start, walking-end}
 use Rattle.spans.proofs.entry.skim.Goals as goal
+
+pub returns-then-size-eq0 : goal.returns-then-size-eq0
+returns-then-size-eq0 c = record { few = omega arith; read = walking-end (walking_start c.args.sort c.requires) refl }
 
 pub returns : goal.returns
 returns c =
