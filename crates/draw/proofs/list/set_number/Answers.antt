@@ -2,4 +2,4 @@
 use Rattle.draw.proofs.list.set_number.Goals as goal
 
 pub returns : goal.returns
-returns c = c.store32.ensures
+returns c = c.store.ensures

@@ -1,11 +1,11 @@
 use Rattle.links.proofs.Written.{linking-none, linking-inside, linking-more, linking-all}
 use Rattle.links.proofs.write.link_levels.Goals as goal
 
-pub put32-requires : goal.put32-requires
-put32-requires c = linking-inside c.loop-level.invariant c.requires c.loop-level-test.true
+pub put-requires : goal.put-requires
+put-requires c = linking-inside c.loop-level.invariant c.requires c.loop-level-test.true
 
 pub loop-level-preserved : goal.loop-level-preserved
-loop-level-preserved c = linking-more c.loop-level.invariant c.loop-level-test.true _ c.put32.ensures
+loop-level-preserved c = linking-more c.loop-level.invariant c.loop-level-test.true _ c.put.ensures
 
 pub returns : goal.returns
 returns c = linking-all c.loop-level.invariant c.loop-level-test.false

@@ -3,11 +3,11 @@ use mathlib.Core.Path.{refl}
 use Rattle.links.proofs.Written.{entering-none, entering-more, entering-all}
 use Rattle.links.proofs.write.put_entries.Goals as goal
 
-pub put32-requires : goal.put32-requires
-put32-requires c = record { small = omega arith; low = omega arith; high = omega arith; fits = omega arith }
+pub put-requires : goal.put-requires
+put-requires c = record { small = omega arith; low = omega arith; high = omega arith; fits = omega arith }
 
 pub loop-i-preserved : goal.loop-i-preserved
-loop-i-preserved c = entering-more c.loop-i.invariant c.loop-i-test.true _ refl _ c.put32.ensures
+loop-i-preserved c = entering-more c.loop-i.invariant c.loop-i-test.true _ refl _ c.put.ensures
 
 pub returns : goal.returns
 returns c = entering-all c.loop-i.invariant c.loop-i-test.false

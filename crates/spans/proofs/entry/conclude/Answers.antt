@@ -6,8 +6,8 @@ use Rattle.spans.proofs.entry.conclude.Goals as goal
 pub returns-then-count-eq0 : goal.returns-then-count-eq0
 returns-then-count-eq0 c sort w = skims-none w (omega arith)
 
-pub get16-length-requires : goal.get16-length-requires
-get16-length-requires c =
+pub get-length-requires : goal.get-length-requires
+get-length-requires c =
     let w = c.requires.1 in
     let r = w.start.rest in
     let t = skims-there w (λ e. omega (arith, c.if-count-eq0.false, e)) in
@@ -20,4 +20,4 @@ pub overflow_add-key : goal.overflow_add-key
 overflow_add-key c = let w = c.requires.1 in let t = skims-there w (λ e. omega (arith, c.if-count-eq0.false, e)) in omega (arith, t.1, t.2)
 
 pub returns : goal.returns
-returns c sort w = skims-some w (omega arith) c.get16-length.ensures.is
+returns c sort w = skims-some w (omega arith) c.get-length.ensures.is

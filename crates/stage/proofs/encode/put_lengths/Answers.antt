@@ -12,4 +12,4 @@ pub copy_bytes-requires : goal.copy_bytes-requires
 copy_bytes-requires c = omega (arith, gap-long (c.lens_at-lens.result - c.args.end) (omega arith))
 
 pub returns : goal.returns
-returns c = lengths-put _ _ _ _ _ c.lens_at-lens.ensures.0 c.lens_at-lens.ensures.2 c.copy_bytes.ensures c.store16.ensures c.store16-2.ensures
+returns c = lengths-put _ _ _ _ _ c.lens_at-lens.ensures.0 c.lens_at-lens.ensures.2 c.copy_bytes.ensures c.store.ensures c.store-2.ensures
