@@ -1,4 +1,4 @@
-// A number as it stands in an image, big endian: of two bytes as u16, of four as u32.
+// Numbers as they stand in an image, big endian, in two bytes or in four.
 ghost use Rattle.std.specs.Prelude.{ℕ, List, ◌≡◌, ◌+◌, ◌*◌, ◌-◌, ◌≤◌, length};
 ghost use Rattle.std.proofs.Common.{rules};
 ghost use Rattle.std.proofs.lemmas.List.Edits.{sets};
@@ -8,25 +8,34 @@ ghost use Rattle.pages.specs.Places.{Number};
 
 use crate::write::copy_bytes;
 
+// A width of numbers: u16 stands for two bytes, u32 for four. The numbers themselves are a usize wherever they are used.
 pub trait Word {
-    // how many bytes, and what every such number is below
+    // How many bytes a number has.
     ghost width: { ℕ };
+
+    // What all numbers are below.
     ghost bound: { ℕ };
 
-    // the number at an offset, and the bytes of a number
+    // The number at a place.
     ghost value: { List ℕ → ℕ → ℕ };
+
+    // The bytes of a number.
     ghost digits: { ℕ → List ℕ };
 
+    // The number at a place of any slice.
     fn read(bytes: &[u8], at: usize) -> usize
         requires { at + width ≤ length bytes.now }
         ensures { Number (value bytes.now at) bound result };
 
+    // A number written at a place of any slice.
     fn store(bytes: &mut [u8], at: usize, v: usize)
         requires { at + width ≤ length bytes.old }
         ensures { bytes.new ≡ sets bytes.old at (digits v) };
 
-    // it has a byte; on a page it is the number in the image
+    // A number has a byte.
     ghost some: { 1 ≤ width };
+
+    // The number at an offset of a page is the one at its place in the image.
     ghost on_page: { (img : List ℕ) (n o : ℕ) → 1 ≤ n → o + width ≤ 1024 → value (pg img n) o ≡ value img (1024 * (n - 1) + o) };
 }
 

@@ -6,8 +6,8 @@ ghost use Rattle.stage.specs.Parts.{Lengthened, EntryPut, Copyable, OldPut, Entr
 use crate::change::{Change, Cursor, NewEntry, Next, next_entry};
 use crate::measure::{Part, lens_at};
 use entries::place::Sizes;
-use pages::write::copy_bytes;
 use pages::word::Word;
+use pages::write::copy_bytes;
 use reader::copy_from;
 
 // The lengths of an entry, and zeros before them where they do not begin at `end`. Answers where its key begins.
