@@ -11,7 +11,7 @@ use edit::span::{Header, put_header};
 use links::write::{Counts, NewSkipList, put_skip_list, put_tower};
 use pages::free::taken_after;
 use pages::mark::Kind;
-use pages::read::get16;
+use pages::read::get;
 use pages::write::put_page;
 
 // The pages of its skip list, its span and its head, and its span size.
@@ -31,7 +31,7 @@ pub fn new_table(image: &[u8], skip: usize) -> NewTable
     let root = taken_after(image, skip);
     let span = taken_after(image, skip + 1);
     let head = taken_after(image, skip + 2);
-    let most = get16(image, 1, 22);
+    let most = get::<u16>(image, 1, 22);
     NewTable {
         root,
         span,

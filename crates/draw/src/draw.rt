@@ -5,7 +5,7 @@ ghost use Rattle.draw.specs.Hands.{Chained, KeptFor, Stocked, TookAll, GaveChain
 
 use crate::list::set_number;
 use pages::free::{give_page, take_page};
-use pages::read::get32;
+use pages::read::get;
 
 // How many old pages are kept, and the first one that is left over, 0 for none as a page's link has it.
 #[derive(Clone, Copy)]
@@ -24,7 +24,7 @@ fn keep_pages(image: &[u8], first: usize, wanted: usize, numbers: &mut [u8], fro
     let mut count = 0;
     while count < wanted && next != 0 {
         set_number(numbers, from + count, next);
-        next = get32(image, next, 4);
+        next = get::<u32>(image, next, 4);
         count += 1;
     }
     Kept { count, next }
@@ -50,7 +50,7 @@ pub fn give_chain(image: &mut [u8], first: usize) -> usize
     let mut page = first;
     let mut given = 0;
     while page != 0 {
-        let next = get32(image, page, 4);
+        let next = get::<u32>(image, page, 4);
         give_page(image, page);
         page = next;
         given += 1;

@@ -2,7 +2,7 @@
 ghost use Rattle.search.specs.Tables.{Reading};
 ghost use Rattle.edit.specs.Fields.{ListRead, LinkedOn, LinksRead};
 
-use pages::read::{get16, get32};
+use pages::read::get;
 
 // A table: the page of its head; its numbers of keys, spans and towers; its span size; the head's max and current height.
 #[derive(Clone, Copy)]
@@ -31,13 +31,13 @@ pub fn read_list(image: &[u8], root: usize) -> SkipList
     requires { Reading image.now root }
     ensures { ListRead image.now root result }
 {
-    let head = get32(image, root, 12);
-    let size = get32(image, root, 16);
-    let spans = get32(image, root, 20);
-    let levels = get32(image, root, 24);
-    let most = get16(image, root, 28);
-    let max = get16(image, head, 8);
-    let top = get16(image, head, 10);
+    let head = get::<u32>(image, root, 12);
+    let size = get::<u32>(image, root, 16);
+    let spans = get::<u32>(image, root, 20);
+    let levels = get::<u32>(image, root, 24);
+    let most = get::<u16>(image, root, 28);
+    let max = get::<u16>(image, head, 8);
+    let top = get::<u16>(image, head, 10);
     SkipList {
         head,
         size,
@@ -54,10 +54,10 @@ pub fn read_links(image: &[u8], page: usize) -> Links
     requires { LinkedOn image.now page }
     ensures { LinksRead image.now page result }
 {
-    let first = get32(image, page, 4);
-    let prev = get32(image, page, 8);
-    let next = get32(image, page, 12);
-    let size = get16(image, page, 18);
+    let first = get::<u32>(image, page, 4);
+    let prev = get::<u32>(image, page, 8);
+    let next = get::<u32>(image, page, 12);
+    let size = get::<u16>(image, page, 18);
     Links {
         prev,
         next,

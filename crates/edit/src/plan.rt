@@ -6,7 +6,7 @@ use crate::fields::{Links, SkipList, read_links, read_list};
 use crate::shape::{Shape, Wants, shape_of, wanted};
 use crate::span::{Header, Part, write_span};
 use draw::list::number_at;
-use pages::write::put32;
+use pages::write::put;
 use stage::change::Change;
 
 // A span that is rewritten: its table's skip-list page, its own page, and what these say; how its entries are shared out and
@@ -105,7 +105,7 @@ fn write_split(image: &mut [u8], buffer: &mut [u8], plan: Plan)
     write_stay(image, buffer, plan, new);
     write_moved(image, buffer, plan);
     if next != 0 {
-        put32(image, next, 8, new)
+        put::<u32>(image, next, 8, new)
     }
 }
 

@@ -6,7 +6,7 @@ ghost use Rattle.edit.specs.Cuts.{links_on, tower_writes};
 ghost use Rattle.edit.specs.Towers.{rise_of, TowerReady};
 
 use links::write::{link_levels, put_tower};
-use pages::write::put16;
+use pages::write::put;
 
 // A new tower: its page and its span's; its height, and its max height, which is the head's; the head's page and current height.
 #[derive(Clone, Copy)]
@@ -36,6 +36,6 @@ pub fn write_tower(image: &mut [u8], new: NewTower, before: &[usize; 252], after
     put_tower(image, new.page, new.max, new.span, &after[..new.height]);
     link_tower(image, before, new.height, new.page);
     if new.top < new.height {
-        put16(image, new.head, 10, new.height)
+        put::<u16>(image, new.head, 10, new.height)
     }
 }

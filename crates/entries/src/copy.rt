@@ -3,7 +3,7 @@ ghost use Rattle.std.specs.Prelude.{◌≡◌, ◌+◌, ◌≤◌, length};
 ghost use Rattle.entries.specs.Places.{Enough, Numbered, Copied};
 
 use crate::place::{Place, step};
-use pages::read::get32;
+use pages::read::get;
 use pages::write::copy_bytes;
 
 // The four bytes here as a number, byte by byte.
@@ -33,7 +33,7 @@ pub fn copy(image: &[u8], at: Place, n: usize, into: &mut [u8])
         let end = 1024 * page;
         copy_bytes(into, n - left, &image[from..end]);
         left -= 1024 - offset;
-        page = get32(image, page, 4);
+        page = get::<u32>(image, page, 4);
         offset = 8;
     }
     let from = 1024 * (page - 1) + offset;

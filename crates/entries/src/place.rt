@@ -2,7 +2,7 @@
 ghost use Rattle.std.specs.Prelude.{◌≡◌, ◌+◌, ◌-◌, ◌*◌, ◌≤◌};
 ghost use Rattle.entries.specs.Places.{Enough, Moved, gap, Settled, Here, here, Stepped, Measured};
 
-use pages::read::{get16, get32};
+use pages::read::get;
 
 // A page of a span, and an offset on it from 8 to 1024; at 1024 the next byte is the next page's first.
 #[derive(Clone, Copy)]
@@ -42,7 +42,7 @@ pub fn settle(image: &[u8], at: Place, n: usize) -> Place
     let page = at.page;
     let offset = at.offset;
     if 1024 < offset + n {
-        let next = get32(image, page, 4);
+        let next = get::<u32>(image, page, 4);
         return Place {
             page: next,
             offset: 8,
@@ -71,8 +71,8 @@ pub fn lengths(image: &[u8], at: Place) -> Sizes
     let here = settle(image, at, 4);
     let page = here.page;
     let offset = here.offset;
-    let key = get16(image, page, offset);
-    let value = get16(image, page, offset + 2);
+    let key = get::<u16>(image, page, offset);
+    let value = get::<u16>(image, page, offset + 2);
     Sizes {
         key,
         value,
@@ -93,7 +93,7 @@ pub fn forward(image: &[u8], at: Place, n: usize) -> Place
     let mut left = n;
     while 1024 - offset < left {
         left -= 1024 - offset;
-        page = get32(image, page, 4);
+        page = get::<u32>(image, page, 4);
         offset = 8;
     }
     Place {

@@ -3,10 +3,10 @@
 ghost use Rattle.std.specs.Prelude.{List, ◌≡◌, ℕ, ◌*◌, ◌-◌, ◌≤◌, ◌<◌, length};
 ghost use Rattle.pages.specs.Kinds.{kind_at};
 ghost use Rattle.pages.specs.Places.{Number};
-ghost use Rattle.heads.specs.Claims.{Room, HeadCopied, Headed, Lent, Claimed, InHead, full, pages_in, head_at, head16, head32};
+ghost use Rattle.heads.specs.Claims.{Room, HeadCopied, Headed, Lent, Claimed, InHead, full, pages_in, head_at};
 
 use pages::mark::{Kind, bears};
-use pages::read::{word16, word32};
+use pages::word::Word;
 use pages::write::copy_bytes;
 
 // Copies the head of the page of this index, by way of an array of its own, so that all of it is read before any of it is written
@@ -50,20 +50,12 @@ fn place(scratch: &[u8], page: usize, offset: usize) -> usize
     16 * (scratch.len() / 20) + 4 * (page - 1) + (offset - 16)
 }
 
-// The two bytes at an offset of a page's head.
-pub fn head16(scratch: &[u8], page: usize, offset: usize) -> usize
-    requires { InHead scratch.now page offset 2 }
-    ensures { Number (head16 scratch.now page offset) 65536 result }
+// The number at an offset of a page's head.
+pub fn from_head<W: Word>(scratch: &[u8], page: usize, offset: usize) -> usize
+    requires { InHead scratch.now page offset W.width }
+    ensures { Number (W.value scratch.now (head_at (pages_in scratch.now) (page - 1) offset)) W.bound result }
 {
-    word16(scratch, place(scratch, page, offset))
-}
-
-// The four bytes at an offset of a page's head.
-pub fn head32(scratch: &[u8], page: usize, offset: usize) -> usize
-    requires { InHead scratch.now page offset 4 }
-    ensures { Number (head32 scratch.now page offset) 4294967296 result }
-{
-    word32(scratch, place(scratch, page, offset))
+    W::read(scratch, place(scratch, page, offset))
 }
 
 // Claims the page as the kind: it must be one of the pages, not claimed yet, and bear the mark; else nothing changes.

@@ -5,7 +5,7 @@ ghost use Rattle.pages.specs.Places.{Inside};
 ghost use Rattle.search.specs.Paths.{Filled};
 ghost use Rattle.links.specs.Levels.{Pages, page_or_head, HasBefore, AfterIn, Precedes, TowerOn};
 
-use pages::read::{get16, get32};
+use pages::read::get;
 
 // The page of a path, or the head where it has none. A path has 0 for none, as the entries have on the image that it is read from.
 fn or_head(head: usize, page: usize) -> usize
@@ -31,10 +31,10 @@ pub fn towers_after(image: &[u8], root: usize, before: &[usize; 252]) -> [usize;
     requires { HasBefore image.now root before.now }
     ensures { AfterIn image.now root before.now result }
 {
-    let height = get16(image, get32(image, root, 12), 10);
+    let height = get::<u16>(image, get::<u32>(image, root, 12), 10);
     let mut after = [0usize; 252];
     for i in 0..height {
-        after[i] = get32(image, before[i], 16 + 4 * i);
+        after[i] = get::<u32>(image, before[i], 16 + 4 * i);
     }
     after
 }
@@ -49,11 +49,11 @@ pub fn tower_of(image: &[u8], path: &[u16; 252], page: usize) -> Option<usize>
     if lowest == 0 {
         return None;
     }
-    let next = get32(image, lowest, 16);
+    let next = get::<u32>(image, lowest, 16);
     if next == 0 {
         return None;
     }
-    if get32(image, next, 12) != page {
+    if get::<u32>(image, next, 12) != page {
         return None;
     }
     Some(next)
@@ -66,7 +66,7 @@ pub fn get_entries(image: &[u8], page: usize, height: usize) -> [usize; 252]
 {
     let mut nexts = [0usize; 252];
     for i in 0..height {
-        nexts[i] = get32(image, page, 16 + 4 * i);
+        nexts[i] = get::<u32>(image, page, 16 + 4 * i);
     }
     nexts
 }

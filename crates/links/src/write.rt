@@ -6,7 +6,7 @@ ghost use Rattle.pages.specs.Places.{Inside};
 ghost use Rattle.links.specs.Links.{link_writes, Linkable, tower_as, skip_list_as};
 
 use pages::mark::Kind;
-use pages::write::{put_mark, put_zeros, put16, put32};
+use pages::write::{put, put_mark, put_zeros};
 
 // At each level below `height`, the entry of the tower on the page in `before` becomes the number in `values`.
 // The level is the place of the entry too, so an index is plainer than a zip of the two lists with a count.
@@ -15,7 +15,7 @@ pub fn link_levels(image: &mut [u8], before: &[usize; 252], values: &[usize; 252
     ensures { image.new ≡ apply (link_writes before.now values.now height) image.old }
 {
     for level in 0..height {
-        put32(image, before[level], 16 + 4 * level, values[level]);
+        put::<u32>(image, before[level], 16 + 4 * level, values[level]);
     }
 }
 
@@ -25,7 +25,7 @@ fn put_entries(image: &mut [u8], page: usize, nexts: &[usize])
     ensures { image.new ≡ write image.old page 16 (gather word32 nexts.now) }
 {
     for (i, &next) in nexts.iter().enumerate() {
-        put32(image, page, 16 + 4 * i, next);
+        put::<u32>(image, page, 16 + 4 * i, next);
     }
 }
 
@@ -36,9 +36,9 @@ pub fn put_tower(image: &mut [u8], page: usize, max: usize, span: usize, nexts: 
 {
     let height = nexts.len();
     put_mark(image, page, Kind::Tower);
-    put16(image, page, 8, max);
-    put16(image, page, 10, height);
-    put32(image, page, 12, span);
+    put::<u16>(image, page, 8, max);
+    put::<u16>(image, page, 10, height);
+    put::<u32>(image, page, 12, span);
     put_entries(image, page, nexts);
     put_zeros(image, page, 16 + 4 * height, 1008 - 4 * height)
 }
@@ -56,9 +56,9 @@ pub fn put_counts(image: &mut [u8], root: usize, counts: Counts)
     requires { Inside image.old root 16 12 }
     ensures { image.new ≡ write image.old root 16 (word32 counts.size ++ (word32 counts.spans ++ word32 counts.levels)) }
 {
-    put32(image, root, 16, counts.size);
-    put32(image, root, 20, counts.spans);
-    put32(image, root, 24, counts.levels)
+    put::<u32>(image, root, 16, counts.size);
+    put::<u32>(image, root, 20, counts.spans);
+    put::<u32>(image, root, 24, counts.levels)
 }
 
 // A skip list to be written: its page, the pages of its first span and its head, its counts and its span size.
@@ -78,9 +78,9 @@ pub fn put_skip_list(image: &mut [u8], list: NewSkipList)
 {
     let page = list.page;
     put_mark(image, page, Kind::SkipList);
-    put32(image, page, 8, list.first);
-    put32(image, page, 12, list.head);
+    put::<u32>(image, page, 8, list.first);
+    put::<u32>(image, page, 12, list.head);
     put_counts(image, page, list.counts);
-    put16(image, page, 28, list.span_size);
+    put::<u16>(image, page, 28, list.span_size);
     put_zeros(image, page, 30, 994)
 }

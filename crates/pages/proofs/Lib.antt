@@ -4,3 +4,4 @@ pub mod Words
 pub mod Marks
 pub mod Taking
 pub mod Skips
+pub mod Widths

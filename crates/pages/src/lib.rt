@@ -4,4 +4,5 @@
 pub mod free;
 pub mod mark;
 pub mod read;
+pub mod word;
 pub mod write;

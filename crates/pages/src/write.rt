@@ -1,45 +1,20 @@
 // Bytes written to a page.
 ghost use Rattle.std.specs.Prelude.{◌≡◌, [], ◌++◌, ◌+◌, ◌≤◌, ◌<◌, length, get_or, take, drop, replicate};
 ghost use Rattle.std.proofs.lemmas.List.Edits.{sets};
-ghost use Rattle.blockfile.specs.Bytes.{word16, word32, write, padded};
+ghost use Rattle.blockfile.specs.Bytes.{word32, write, padded};
 ghost use Rattle.blockfile.specs.Marks.{marks};
 ghost use Rattle.pages.specs.Kinds.{kind_at};
 ghost use Rattle.pages.specs.Places.{Inside, Chunk};
 
 use crate::mark::{Kind, mark};
+use crate::word::Word;
 
-// A number as two bytes of any slice.
-pub fn store16(bytes: &mut [u8], at: usize, v: usize)
-    requires { at + 2 ≤ length bytes.old }
-    ensures { bytes.new ≡ sets bytes.old at (word16 v) }
+// A number at an offset of a page.
+pub fn put<W: Word>(image: &mut [u8], page: usize, offset: usize, v: usize)
+    requires { Inside image.old page offset W.width }
+    ensures { image.new ≡ write image.old page offset (W.digits v) }
 {
-    let two = ((v % 65536) as u16).to_be_bytes();
-    copy_bytes(bytes, at, &two)
-}
-
-// A number as four bytes of any slice.
-pub fn store32(bytes: &mut [u8], at: usize, v: usize)
-    requires { at + 4 ≤ length bytes.old }
-    ensures { bytes.new ≡ sets bytes.old at (word32 v) }
-{
-    let four = ((v % 4294967296) as u32).to_be_bytes();
-    copy_bytes(bytes, at, &four)
-}
-
-// A number as the two bytes at an offset of a page.
-pub fn put16(image: &mut [u8], page: usize, offset: usize, v: usize)
-    requires { Inside image.old page offset 2 }
-    ensures { image.new ≡ write image.old page offset (word16 v) }
-{
-    store16(image, 1024 * (page - 1) + offset, v)
-}
-
-// A number as the four bytes at an offset of a page.
-pub fn put32(image: &mut [u8], page: usize, offset: usize, v: usize)
-    requires { Inside image.old page offset 4 }
-    ensures { image.new ≡ write image.old page offset (word32 v) }
-{
-    store32(image, 1024 * (page - 1) + offset, v)
+    W::store(image, 1024 * (page - 1) + offset, v)
 }
 
 // All of src, over the bytes of any slice from `from` on.
@@ -92,7 +67,7 @@ pub fn put_page(image: &mut [u8], page: usize, kind: Kind, link: usize, src: &[u
     ensures { image.new ≡ write image.old page 0 (get_or marks (kind_at kind) [] ++ (word32 link ++ padded 1016 (take 1016 (drop from src.now)))) }
 {
     put_mark(image, page, kind);
-    put32(image, page, 4, link);
+    put::<u32>(image, page, 4, link);
     let n = chunk(src.len(), from);
     let end = from + n;
     put_bytes(image, page, 8, &src[from..end]);

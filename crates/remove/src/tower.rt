@@ -3,7 +3,7 @@ ghost use Rattle.links.specs.Levels.{Precedes};
 ghost use Rattle.remove.specs.Towers.{FoundTower};
 
 use links::around::{get_entries, tower_of};
-use pages::read::get16;
+use pages::read::get;
 
 // A span's tower: its page, if there is one, and its height, 0 for none; for each of its levels the next tower behind it.
 #[derive(Clone, Copy)]
@@ -25,7 +25,7 @@ pub fn find_tower(image: &[u8], path: &[u16; 252], page: usize) -> OwnTower
             after: [0; 252],
         };
     };
-    let height = get16(image, tower, 10);
+    let height = get::<u16>(image, tower, 10);
     let after = get_entries(image, tower, height);
     OwnTower {
         page: Some(tower),

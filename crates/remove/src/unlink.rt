@@ -8,7 +8,7 @@ use crate::tower::{OwnTower, find_tower};
 use edit::fields::{Links, SkipList, read_list};
 use links::around::towers_before;
 use links::write::{Counts, link_levels, put_counts};
-use pages::write::put32;
+use pages::write::put;
 
 // A span that goes, with all that is read before anything is written: its table's skip-list page, its own page, and what these say.
 #[derive(Clone, Copy)]
@@ -24,9 +24,9 @@ fn link_spans(image: &mut [u8], prev: usize, next: usize)
     requires { SpansReady image.old prev next }
     ensures { image.new ≡ apply (around_writes prev next) image.old }
 {
-    put32(image, prev, 12, next);
+    put::<u32>(image, prev, 12, next);
     if next != 0 {
-        put32(image, next, 8, prev)
+        put::<u32>(image, next, 8, prev)
     }
 }
 

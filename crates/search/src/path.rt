@@ -5,7 +5,7 @@ ghost use Rattle.search.specs.Paths.{Filled, PathIn, Ahead, Refused, Judged};
 
 use crate::span::{Bound, begins_past};
 use crate::table::TableRef;
-use pages::read::{get16, get32};
+use pages::read::get;
 
 // The tower passed at each level: the last one there whose span begins at the key or below it, the head if there is none. As many levels
 // as the head has are in use, the others are 0.
@@ -38,7 +38,7 @@ fn refuses(image: &[u8], next: usize, refused: usize, bound: Bound, key: &[u8]) 
     requires { Ahead image.now bound.sort next × Refused image.now bound key.now refused }
     ensures { Judged image.now bound key.now next result }
 {
-    next == refused || next == 0 || begins_past(image, get32(image, next, 12), bound, key)
+    next == refused || next == 0 || begins_past(image, get::<u32>(image, next, 12), bound, key)
 }
 
 // Goes down the towers of the table: on each level along the towers whose spans begin at the key or below it (strictly: below it), then a
@@ -53,16 +53,16 @@ pub fn descend(image: &[u8], table: TableRef, key: &[u8], strict: bool) -> Path
         sort: table.sort,
         strict,
     };
-    let mut tower = get32(image, root, 12);
-    let height = get16(image, tower, 10);
-    let mut left = get32(image, root, 20);
+    let mut tower = get::<u32>(image, root, 12);
+    let height = get::<u16>(image, tower, 10);
+    let mut left = get::<u32>(image, root, 20);
     let mut pages = [0u16; 252];
     let mut level = height;
     let mut refused = 0;
     while level != 0 {
-        let next = get32(image, tower, 12 + 4 * level);
+        let next = get::<u32>(image, tower, 12 + 4 * level);
         if refuses(image, next, refused, bound, key) {
-            if get32(image, tower, 16) == next {
+            if get::<u32>(image, tower, 16) == next {
                 fill(&mut pages, level, tower as u16);
                 return Path { pages, height };
             }

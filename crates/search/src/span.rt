@@ -5,7 +5,7 @@ ghost use Rattle.search.specs.Spans.{SpanBy, FilledBy, EntryThere, StoppedOn, Fo
 use entries::place::{Place, Sizes, lengths};
 use entries::sorted::compare_as;
 use order::sort::Sort;
-use pages::read::get16;
+use pages::read::get;
 use reader::place_after;
 use std::cmp::Ordering;
 
@@ -33,7 +33,7 @@ pub fn seek(image: &[u8], page: usize, sort: Sort, key: &[u8]) -> Stop
     ensures { StoppedOn image.now page sort key.now result }
 {
     let mut at = Place { page, offset: 20 };
-    let mut left = get16(image, page, 18);
+    let mut left = get::<u16>(image, page, 18);
     while left != 0 {
         let g = lengths(image, at);
         match compare_as(image, g.after, g.key, sort, key) {

@@ -9,7 +9,7 @@ use crate::path::descend;
 use crate::span::{Bound, Extent, begins_past, find_entry};
 use entries::copy::number;
 use order::sort::Sort;
-use pages::read::get32;
+use pages::read::get;
 
 // A table: its skip-list page, and how its keys sort.
 #[derive(Clone, Copy)]
@@ -30,9 +30,9 @@ fn start(image: &[u8], root: usize, lowest: usize) -> usize
     ensures { result ≡ start_on image.now root lowest }
 {
     if lowest == 0 {
-        return get32(image, root, 8);
+        return get::<u32>(image, root, 8);
     }
-    get32(image, lowest, 12)
+    get::<u32>(image, lowest, 12)
 }
 
 // The page of the span where the key belongs, by a path to the key: along the spans from that of its lowest tower, as long as the next one
@@ -46,13 +46,13 @@ pub fn find_from(image: &[u8], table: TableRef, lowest: usize, key: &[u8]) -> us
         strict: false,
     };
     let mut page = start(image, table.root, lowest);
-    let mut next = get32(image, page, 12);
+    let mut next = get::<u32>(image, page, 12);
     while next != 0 {
         if begins_past(image, next, bound, key) {
             return page;
         }
         page = next;
-        next = get32(image, page, 12);
+        next = get::<u32>(image, page, 12);
     }
     page
 }

@@ -5,7 +5,7 @@ ghost use Rattle.search.specs.Tables.{ReadingBy};
 
 use blockfile::Refusal;
 use order::sort::sort_of;
-use pages::read::get32;
+use pages::read::get;
 use refusals::answer::hand_over;
 use search::next::next_key;
 use search::table::{METAINDEX, TableRef, find_by_towers, find_span, find_table};
@@ -77,7 +77,7 @@ fn compare_table(image: &[u8], table: TableRef, buffer: &mut [u8], tally: &mut T
 {
     let mut n = 0;
     compare(image, table, &buffer[..n], tally);
-    for _ in 0..get32(image, table.root, 16) {
+    for _ in 0..get::<u32>(image, table.root, 16) {
         let Ok(m) = copy_above(image, table, buffer, n) else {
             return;
         };
@@ -104,7 +104,7 @@ pub fn compare_tables(image: &[u8], name: &mut [u8], buffer: &mut [u8]) -> Tally
     let mut tally = Tally::default();
     compare_table(image, METAINDEX, buffer, &mut tally);
     let mut n = 0;
-    for _ in 0..get32(image, METAINDEX.root, 16) {
+    for _ in 0..get::<u32>(image, METAINDEX.root, 16) {
         let Ok(m) = copy_above(image, METAINDEX, name, n) else {
             return tally;
         };

@@ -4,7 +4,7 @@ ghost use Rattle.heads.specs.Claims.{Lent, Kept};
 ghost use Rattle.spans.specs.Charts.{Noted};
 ghost use Rattle.spans.specs.Parts.{ContsClaimed, PagesClaimed};
 
-use heads::claim::{claim, head32};
+use heads::claim::{claim, from_head};
 use pages::mark::Kind;
 
 // Notes the continuation page of this index in the chart, which has every sixteenth.
@@ -31,7 +31,7 @@ fn claim_conts(scratch: &mut [u8], chart: &mut [u16; 256], start: usize) -> Opti
         }
         note(chart, count, page);
         count += 1;
-        page = head32(scratch, page, 4);
+        page = from_head::<u32>(scratch, page, 4);
     }
     Some(count)
 }
@@ -42,7 +42,7 @@ pub fn claim_span(scratch: &mut [u8], chart: &mut [u16; 256], page: usize) -> Op
     ensures { (img : List ℕ) → Lent img scratch.old → PagesClaimed img scratch.old page result scratch.new chart.new }
 {
     if claim(scratch, page, Kind::Span) {
-        let first = head32(scratch, page, 4);
+        let first = from_head::<u32>(scratch, page, 4);
         return claim_conts(scratch, chart, first);
     }
     None

@@ -13,9 +13,9 @@ use entries::copy::number;
 use entries::key::compare_keys;
 use entries::place::{Place, gap, lengths};
 use entries::rank::{rank, rank_most};
-use heads::claim::head32;
+use heads::claim::from_head;
 use order::sort::{Lengths, Sort, lengths_of, turned};
-use pages::read::get16;
+use pages::read::get;
 use reader::place_after;
 
 // The pages of a span as its entries are read: the image, its heads, the chart of the continuation pages, and how many these are.
@@ -101,7 +101,7 @@ fn nth_page(scratch: &[u8], chart: &[u16; 256], index: usize) -> usize
 {
     let mut page = chart[index / 16] as usize;
     for _ in 0..index % 16 {
-        page = head32(scratch, page, 4);
+        page = from_head::<u32>(scratch, page, 4);
     }
     page
 }
@@ -171,8 +171,8 @@ fn try_entry(image: &[u8], at: Place, sort: Sort, allowed: Lengths, high: usize)
     if 1012 < offset {
         return None;
     }
-    let key = get16(image, page, offset);
-    let value = get16(image, page, offset + 2);
+    let key = get::<u16>(image, page, offset);
+    let value = get::<u16>(image, page, offset + 2);
     let start = Place {
         page,
         offset: offset + 4,
@@ -203,7 +203,7 @@ fn conclude(image: &[u8], from: Position, passed: Passed) -> Skimmed
         return Skimmed { count, to: from };
     }
     let page = from.at.page;
-    let length = get16(image, page, before);
+    let length = get::<u16>(image, page, before);
     let key = Place {
         page,
         offset: before + 4,

@@ -8,7 +8,7 @@ ghost use Rattle.spans.specs.Parts.{ReadySpan, Reading, VerifiedAll};
 use crate::claims::claim_span;
 use crate::entry::{Last, Pages, Position, verify_entries};
 use entries::place::Place;
-use heads::claim::{head16, head32};
+use heads::claim::from_head;
 use order::sort::Sort;
 
 // What all spans of a table have in common: their max keys, and how their keys sort.
@@ -40,13 +40,13 @@ fn read_span<'a>(
 {
     let scratch = pages.scratch;
     let most = rules.most;
-    if head32(scratch, page, 8) != previous {
+    if from_head::<u32>(scratch, page, 8) != previous {
         return None;
     }
-    if head16(scratch, page, 16) != most {
+    if from_head::<u16>(scratch, page, 16) != most {
         return None;
     }
-    let size = head16(scratch, page, 18);
+    let size = from_head::<u16>(scratch, page, 18);
     if most < size {
         return None;
     }
@@ -61,7 +61,7 @@ fn read_span<'a>(
     }
     Some(Spanned {
         size,
-        next: head32(scratch, page, 12),
+        next: from_head::<u32>(scratch, page, 12),
         last: end.last,
     })
 }

@@ -6,7 +6,7 @@ ghost use Rattle.stage.specs.Changes.{SpottedOn, put_at, PassedOver, Going, Reac
 
 use entries::place::{Place, Sizes, lengths};
 use order::sort::Sort;
-use pages::read::get16;
+use pages::read::get;
 use reader::place_after;
 use search::span::{Stop, seek};
 
@@ -54,7 +54,7 @@ pub fn find_spot(image: &[u8], page: usize, sort: Sort, key: &[u8]) -> Result<us
     requires { SpanBy image.now page sort }
     ensures { SpottedOn image.now page sort key.now result }
 {
-    let size = get16(image, page, 18);
+    let size = get::<u16>(image, page, 18);
     let stop = seek(image, page, sort, key);
     match stop {
         Stop::Here(_, left) => Ok(size - left),

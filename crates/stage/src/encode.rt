@@ -6,7 +6,8 @@ ghost use Rattle.stage.specs.Parts.{Lengthened, EntryPut, Copyable, OldPut, Entr
 use crate::change::{Change, Cursor, NewEntry, Next, next_entry};
 use crate::measure::{Part, lens_at};
 use entries::place::Sizes;
-use pages::write::{copy_bytes, store16};
+use pages::word::Word;
+use pages::write::copy_bytes;
 use reader::copy_from;
 
 // The lengths of an entry, and zeros before them where they do not begin at `end`. Answers where its key begins.
@@ -18,8 +19,8 @@ fn put_lengths(stream: &mut [u8], end: usize, key: usize, value: usize) -> usize
     let zeros = [0; 3];
     let gap = lens - end;
     copy_bytes(stream, end, &zeros[..gap]);
-    store16(stream, lens, key);
-    store16(stream, lens + 2, value);
+    u16::store(stream, lens, key);
+    u16::store(stream, lens + 2, value);
     lens + 4
 }
 

@@ -5,7 +5,7 @@ ghost use Rattle.stage.specs.Changes.{Going};
 ghost use Rattle.stage.specs.Parts.{far, EntryMeasured, PartMeasured, Measurable, MeasuredOn};
 
 use crate::change::{Change, Cursor, Next, next_entry, size_after, start};
-use pages::read::get16;
+use pages::read::get;
 
 // Where a part of the new list ends in a stream of its own, and the cursor behind it.
 #[derive(Clone, Copy)]
@@ -73,7 +73,7 @@ pub fn measure(image: &[u8], page: usize, change: Change, both: usize, half: usi
     requires { Measurable image.now page change half × (both ≤ 131070) }
     ensures { MeasuredOn image.now page change both half result }
 {
-    let size = get16(image, page, 18);
+    let size = get::<u16>(image, page, 18);
     let stay = measure_part(image, start(page), change, both, half);
     let middle = stay.after;
     let rest = size_after(size, change) - half;

@@ -9,9 +9,9 @@ ghost use Rattle.walks.specs.Found.{Decides, FindsAt};
 ghost use Rattle.towers.specs.Towers.{Spanned, HasSpans, TowersFound};
 ghost use Rattle.towers.specs.Climb.{Repeats, AllAre, Followed, Linked, HasWay, Reach, Tall, TowerFound, Placed, Climb, entry_at};
 
-use heads::claim::{claim, head16, head32};
+use heads::claim::{claim, from_head};
 use pages::mark::Kind;
-use pages::read::get32;
+use pages::read::get;
 use pages::write::put_bytes;
 
 // The levels are the entries of a tower: the page expected at level i stands at 16 + 4·i of a page of their own.
@@ -30,7 +30,7 @@ fn all_are(levels: &[u8; 1024], n: usize, v: usize) -> bool
     requires { n ≤ 252 }
     ensures { Decides (AllAre levels.now n v) result }
 {
-    n == 0 || get32(levels, 1, 16) == v && repeats(levels, 4 * n - 4)
+    n == 0 || get::<u32>(levels, 1, 16) == v && repeats(levels, 4 * n - 4)
 }
 
 // The first `height` levels now expect the entries of the tower on `page`.
@@ -53,7 +53,7 @@ fn reaches(scratch: &[u8], start: usize, target: usize) -> bool
         if span == target {
             return true;
         }
-        span = head32(scratch, span, 12);
+        span = from_head::<u32>(scratch, span, 12);
     }
     false
 }
@@ -73,8 +73,8 @@ fn claim_tower(scratch: &mut [u8], page: usize, low: usize, high: usize) -> Opti
     if !claim(scratch, page, Kind::Tower) {
         return None;
     }
-    let height = head16(scratch, page, 10);
-    if !is_tall(low, high, head16(scratch, page, 8), height) {
+    let height = from_head::<u16>(scratch, page, 10);
+    if !is_tall(low, high, from_head::<u16>(scratch, page, 8), height) {
         return None;
     }
     Some(height)
@@ -94,7 +94,7 @@ fn place_tower(
         → FindsAt Some (Placed img scratch.old top levels.now start page) result scratch.new }
 {
     let height = claim_tower(scratch, page, 1, top)?;
-    let span = head32(scratch, page, 12);
+    let span = from_head::<u32>(scratch, page, 12);
     if !reaches(scratch, start, span) {
         return None;
     }
@@ -121,14 +121,14 @@ fn claim_others(
     follow(image, &mut levels, head, top);
     let mut next = start;
     let mut count = 1;
-    let mut page = get32(&levels, 1, 16);
+    let mut page = get::<u32>(&levels, 1, 16);
     while page != 0 {
         let height = place_tower(scratch, &levels, next, page, top)?;
         follow(image, &mut levels, page, height);
-        let span = head32(scratch, page, 12);
-        next = head32(scratch, span, 12);
+        let span = from_head::<u32>(scratch, page, 12);
+        next = from_head::<u32>(scratch, span, 12);
         count += 1;
-        page = head32(scratch, page, 16);
+        page = from_head::<u32>(scratch, page, 16);
     }
     if !all_are(&levels, top, 0) {
         return None;
@@ -144,9 +144,9 @@ pub fn verify_towers(image: &[u8], scratch: &mut [u8], head: usize, first: usize
         → FindsAt Some (TowersFound image.now scratch.old head s others) result scratch.new }
 {
     let top = claim_tower(scratch, head, 0, 252)?;
-    if head32(scratch, head, 12) != first {
+    if from_head::<u32>(scratch, head, 12) != first {
         return None;
     }
-    let start = head32(scratch, first, 12);
+    let start = from_head::<u32>(scratch, first, 12);
     claim_others(image, scratch, head, top, start)
 }

@@ -5,9 +5,9 @@ ghost use Rattle.heads.specs.Claims.{Lent};
 ghost use Rattle.walks.specs.Found.{FindsAt};
 ghost use Rattle.verify.specs.Free.{ListedFound, BlockFound, FreeFound};
 
-use heads::claim::{claim, head32};
+use heads::claim::{claim, from_head};
 use pages::mark::Kind;
-use pages::read::get32;
+use pages::read::get;
 
 // Claims the pages that the block on `page` lists, `count` of them.
 fn claim_listed(image: &[u8], scratch: &mut [u8], page: usize, count: usize) -> bool
@@ -15,7 +15,7 @@ fn claim_listed(image: &[u8], scratch: &mut [u8], page: usize, count: usize) -> 
     ensures { FindsAt {A = Unit {0}} (λ u. true) (λ u. ListedFound image.now scratch.old page 16 count) result scratch.new }
 {
     for i in 0..count {
-        let listed = get32(image, page, 16 + 4 * i);
+        let listed = get::<u32>(image, page, 16 + 4 * i);
         if !claim(scratch, listed, Kind::Free) {
             return false;
         }
@@ -31,7 +31,7 @@ fn claim_block(image: &[u8], scratch: &mut [u8], page: usize) -> Option<usize>
     if !claim(scratch, page, Kind::Block) {
         return None;
     }
-    let count = head32(scratch, page, 12);
+    let count = from_head::<u32>(scratch, page, 12);
     if 252 < count {
         return None;
     }
@@ -51,7 +51,7 @@ pub fn verify_free(image: &[u8], scratch: &mut [u8], start: usize) -> Option<usi
     while page != 0 {
         let n = claim_block(image, scratch, page)?;
         free += n;
-        page = head32(scratch, page, 8);
+        page = from_head::<u32>(scratch, page, 8);
     }
     Some(free)
 }

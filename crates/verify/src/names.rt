@@ -11,7 +11,7 @@ use entries::copy::number;
 use entries::key::printable;
 use entries::place::{Place, lengths};
 use entries::sorted::sort_at;
-use pages::read::{get16, get32};
+use pages::read::get;
 use reader::place_after;
 use search::table::{METAINDEX, TableRef};
 
@@ -32,7 +32,7 @@ fn verify_named(image: &[u8], scratch: &mut [u8], page: usize, before: usize) ->
     ensures { (es : List Entry) → NamesOn image.now page es → FindsAt Some (TablesFound image.now scratch.old es before) result scratch.new }
 {
     let mut at = Place { page, offset: 20 };
-    let size = get16(image, page, 18);
+    let size = get::<u16>(image, page, 18);
     let mut keys = before;
     for _ in 0..size {
         let g = lengths(image, at);
@@ -55,12 +55,12 @@ pub fn verify_tables(image: &[u8], scratch: &mut [u8]) -> Option<usize>
     requires { Lent image.now scratch.old × ((meta : Table) × MetaOn image.now meta) }
     ensures { (meta : Table) → MetaOn image.now meta → FindsAt Some (TablesFound image.now scratch.old (entries_of meta) 0) result scratch.new }
 {
-    let mut page = get32(image, METAINDEX.root, 8);
-    let spans = get32(image, METAINDEX.root, 20);
+    let mut page = get::<u32>(image, METAINDEX.root, 8);
+    let spans = get::<u32>(image, METAINDEX.root, 20);
     let mut keys = 0;
     for _ in 0..spans {
         keys = verify_named(image, scratch, page, keys)?;
-        page = get32(image, page, 12);
+        page = get::<u32>(image, page, 12);
     }
     Some(keys)
 }

@@ -10,7 +10,7 @@ ghost use Rattle.verify.specs.Superblock.{Fixed, SuperFound};
 
 use heads::claim::claim;
 use pages::mark::Kind;
-use pages::read::{get16, get32};
+use pages::read::get;
 
 // Whether the version is 1.2, the file length that of the pages, and the page size 1024.
 #[tactic(auto, using(crate::proofs::Supers::numbers_fixed))]
@@ -18,10 +18,10 @@ fn is_fixed(image: &[u8], pages: usize) -> bool
     requires { (length image.now ≡ 1024 * pages) × Within 1 4096 pages }
     ensures { Decides (Fixed pages (pg image.now 1)) result }
 {
-    let version = get16(image, 1, 6);
-    let high = get32(image, 1, 8);
-    let low = get32(image, 1, 12);
-    let size = get32(image, 1, 24);
+    let version = get::<u16>(image, 1, 6);
+    let high = get::<u32>(image, 1, 8);
+    let low = get::<u32>(image, 1, 12);
+    let size = get::<u32>(image, 1, 24);
     version == 0x0102 && high == 0 && low == 1024 * pages && size == 1024
 }
 
@@ -36,15 +36,15 @@ pub fn verify_superblock(image: &[u8], scratch: &mut [u8]) -> Option<usize>
     if !is_fixed(image, image.len() / 1024) {
         return None;
     }
-    let mounted = get16(image, 1, 20);
+    let mounted = get::<u16>(image, 1, 20);
     if 1 < mounted {
         return None;
     }
-    let size = get16(image, 1, 22);
+    let size = get::<u16>(image, 1, 22);
     if size < 2 || 128 < size {
         return None;
     }
-    Some(get32(image, 1, 16))
+    Some(get::<u32>(image, 1, 16))
 }
 
 // Whether the superblock's count of free pages is that of `free` pages, or not kept.
@@ -52,6 +52,6 @@ pub fn is_kept(image: &[u8], free: usize) -> bool
     requires { Inside image.now 1 28 4 }
     ensures { Decides (KeptCount free (be32 (pg image.now 1) 28)) result }
 {
-    let kept = get32(image, 1, 28);
+    let kept = get::<u32>(image, 1, 28);
     kept == 0 || kept - 1 == free
 }

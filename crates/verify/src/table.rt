@@ -8,7 +8,7 @@ ghost use Rattle.verify.specs.Tables.{CountsAre, ColumnsFound, TableFound};
 
 use heads::claim::claim;
 use pages::mark::Kind;
-use pages::read::{get16, get32};
+use pages::read::get;
 use search::table::TableRef;
 use spans::span::Rules;
 use spans::verify_spans;
@@ -27,9 +27,9 @@ fn verify_columns(image: &[u8], scratch: &mut [u8], root: usize, rules: Rules) -
     requires { Lent image.now scratch.old × Inside image.now root 0 1024 × Within 2 128 rules.most }
     ensures { FindsAt Some (ColumnsFound rules.sort image.now scratch.old root rules.most) result scratch.new }
 {
-    let first = get32(image, root, 8);
+    let first = get::<u32>(image, root, 8);
     let counted = verify_spans(image, scratch, first, rules)?;
-    let head = get32(image, root, 12);
+    let head = get::<u32>(image, root, 12);
     let levels = verify_towers(image, scratch, head, first)?;
     Some(Tally {
         keys: counted.keys,
@@ -43,9 +43,9 @@ fn are_counts(image: &[u8], root: usize, tally: Tally) -> bool
     requires { Inside image.now root 0 1024 }
     ensures { Decides (CountsAre (pg image.now root) tally) result }
 {
-    let keys = get32(image, root, 16);
-    let spans = get32(image, root, 20);
-    let levels = get32(image, root, 24);
+    let keys = get::<u32>(image, root, 16);
+    let spans = get::<u32>(image, root, 20);
+    let levels = get::<u32>(image, root, 24);
     keys == tally.keys && spans == tally.spans && levels == tally.levels
 }
 
@@ -58,7 +58,7 @@ pub fn verify_table(image: &[u8], scratch: &mut [u8], table: TableRef) -> Option
     if !claim(scratch, root, Kind::SkipList) {
         return None;
     }
-    let most = get16(image, root, 28);
+    let most = get::<u16>(image, root, 28);
     if most < 2 || 128 < most {
         return None;
     }

@@ -6,10 +6,10 @@ use Rattle.walks.proofs.Founds.{decides-false}
 use Rattle.towers.proofs.Levels.{lowest-is, all-repeat}
 use Rattle.towers.proofs.all_are.Goals as goal
 
-pub returns-then-get32-v : goal.returns-then-get32-v
-returns-then-get32-v c =
-    all-repeat c.args.levels.now (λ i. omega (arith, c.fits-levels i)) _ _ _ (lowest-is _ _ c.get32.ensures.is ∙ c.if-get32-v.true) c.repeats.ensures
+pub returns-then-get-v : goal.returns-then-get-v
+returns-then-get-v c =
+    all-repeat c.args.levels.now (λ i. omega (arith, c.fits-levels i)) _ _ _ (lowest-is _ _ c.get.ensures.is ∙ c.if-get-v.true) c.repeats.ensures
 
-pub returns-else-get32-v : goal.returns-else-get32-v
-returns-else-get32-v c =
-    rw (ne_eqb _ _ c.if-get32-v.false) (decides-false (λ a. c.if-get32-v.false (sym (lowest-is _ _ c.get32.ensures.is) ∙ a 0 (omega arith))))
+pub returns-else-get-v : goal.returns-else-get-v
+returns-else-get-v c =
+    rw (ne_eqb _ _ c.if-get-v.false) (decides-false (λ a. c.if-get-v.false (sym (lowest-is _ _ c.get.ensures.is) ∙ a 0 (omega arith))))

@@ -16,7 +16,7 @@ turned c =
 pub loop-page-init : goal.loop-page-init
 unfolding be32 be16
 loop-page-init c =
-    climbing-start _ _ _ _ _ _ _ c.requires.0 c.requires.2 refl refl c.follow.ensures _ c.get32-page.ensures.is
+    climbing-start _ _ _ _ _ _ _ c.requires.0 c.requires.2 refl refl c.follow.ensures _ c.get-page.ensures.is
 
 pub returns-in_err-height : goal.returns-in_err-height
 returns-in_err-height c =
@@ -29,13 +29,13 @@ follow-requires-in-loop-page c =
     let t = turned (goal.at.follow-requires-in-loop-page c).In_ok-height in
     record { small = omega arith; low = t.low; high = t.high; fits = omega arith }
 
-pub head32-span-requires : goal.head32-span-requires
-head32-span-requires c = turn-in-head (turned (goal.at.head32-span-requires c).In_ok-height) (omega arith)
+pub from_head-span-requires : goal.from_head-span-requires
+from_head-span-requires c = turn-in-head (turned (goal.at.from_head-span-requires c).In_ok-height) (omega arith)
 
-pub head32-next-requires : goal.head32-next-requires
-head32-next-requires c =
-    let t = turned (goal.at.head32-next-requires c).In_ok-height in
-    rw (turn-span t c.head32-span.ensures) (in_head t.lent t.span_low t.span_high (omega arith))
+pub from_head-next-requires : goal.from_head-next-requires
+from_head-next-requires c =
+    let t = turned (goal.at.from_head-next-requires c).In_ok-height in
+    rw (turn-span t c.from_head-span.ensures) (in_head t.lent t.span_low t.span_high (omega arith))
 
 pub overflow_add-count : goal.overflow_add-count
 overflow_add-count c =
@@ -43,16 +43,16 @@ overflow_add-count c =
     let t = turned (goal.at.overflow_add-count c).In_ok-height in
     omega (arith, t.falls, unclaimed-most c.args.scratch.now, c.requires.0.room.whole, c.requires.0.room.most)
 
-pub head32-page-requires : goal.head32-page-requires
-head32-page-requires c = turn-in-head (turned (goal.at.head32-page-requires c).In_ok-height) (omega arith)
+pub from_head-page-requires : goal.from_head-page-requires
+from_head-page-requires c = turn-in-head (turned (goal.at.from_head-page-requires c).In_ok-height) (omega arith)
 
 pub loop-page-preserved : goal.loop-page-preserved
 loop-page-preserved c =
     let inv = c.loop-page.invariant in
     let t = turned (goal.at.loop-page-preserved c).In_ok-height in
     climbing-next _ _ _ _ _ _ _ _ _ _ inv c.loop-page-test.true _ _ (c.place_tower.ensures _ inv.lent inv.linked) _ c.in_ok-height.was
-    _ c.follow-in-loop-page.ensures _ _ (turn-span t c.head32-span.ensures) c.head32-next.ensures.is
-    _ (head32-read t.lent (turn-in-head t (omega arith)) (omega arith) c.head32-page.ensures).is
+    _ c.follow-in-loop-page.ensures _ _ (turn-span t c.from_head-span.ensures) c.from_head-next.ensures.is
+    _ (head32-read t.lent (turn-in-head t (omega arith)) (omega arith) c.from_head-page.ensures).is
 
 pub returns-then-not-all_are : goal.returns-then-not-all_are
 returns-then-not-all_are c = climbing-open _ _ _ _ _ _ _ _ _ _ c.loop-page.invariant c.loop-page-test.false _ c.all_are.ensures c.if-not-all_are.true

@@ -3,8 +3,8 @@ use native.Mathlib.Omega.{arith}
 use Rattle.towers.proofs.Climbs.{found-lent, found-in-head, found-span, placed_off, placed-done}
 use Rattle.towers.proofs.place_tower.Goals as goal
 
-pub head32-span-requires : goal.head32-span-requires
-head32-span-requires c =
+pub from_head-span-requires : goal.from_head-span-requires
+from_head-span-requires c =
     let p = c.requires.1 in
     let f = (c.claim_tower.ensures p.image p.lent).sound _ c.in_ok-height.was in
     found-in-head f p.lent (omega arith)
@@ -20,7 +20,7 @@ returns-then-not-reaches c img lent linked =
     let k = c.claim_tower.ensures img lent in
     let f = k.sound _ c.in_ok-height.was in
     placed_off _ _ _ _ _ _ _ _ k _ c.in_ok-height.was
-    _ (found-span f lent c.head32-span.ensures) _ (c.reaches.ensures img (found-lent _ _ _ _ _ _ _ f lent) linked)
+    _ (found-span f lent c.from_head-span.ensures) _ (c.reaches.ensures img (found-lent _ _ _ _ _ _ _ f lent) linked)
     c.if-not-reaches.true
 
 pub returns : goal.returns
@@ -28,5 +28,5 @@ returns c img lent linked =
     let k = c.claim_tower.ensures img lent in
     let f = k.sound _ c.in_ok-height.was in
     placed-done _ _ _ _ _ _ _ _ k _ c.in_ok-height.was
-    _ (found-span f lent c.head32-span.ensures) _ (c.reaches.ensures img (found-lent _ _ _ _ _ _ _ f lent) linked)
+    _ (found-span f lent c.from_head-span.ensures) _ (c.reaches.ensures img (found-lent _ _ _ _ _ _ _ f lent) linked)
     _ c.all_are.ensures c.if-not-reaches.false c.if-not-all_are.false

@@ -2,4 +2,4 @@ use Rattle.edit.proofs.FieldsRead.{links-read}
 use Rattle.edit.proofs.fields.read_links.Goals as goal
 
 pub returns : goal.returns
-returns c = links-read _ _ _ c.get32-first.ensures.is c.get32-prev.ensures.is c.get32-next.ensures.is c.get16-size.ensures.is
+returns c = links-read _ _ _ c.get-first.ensures.is c.get-prev.ensures.is c.get-next.ensures.is c.get-size.ensures.is

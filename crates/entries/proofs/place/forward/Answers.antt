@@ -6,10 +6,10 @@ pub loop-offset-init : goal.loop-offset-init
 loop-offset-init c = going_start c.requires
 
 pub loop-offset-preserved : goal.loop-offset-preserved
-loop-offset-preserved c = going_next c.loop-offset.invariant c.loop-offset-test.true _ c.get32-page.ensures.is
+loop-offset-preserved c = going_next c.loop-offset.invariant c.loop-offset-test.true _ c.get-page.ensures.is
 
 pub returns : goal.returns
 returns c = going_end c.loop-offset.invariant c.loop-offset-test.false
 
-pub get32-page-requires : goal.get32-page-requires
-get32-page-requires c = record { small = omega arith; low = omega arith; high = omega arith; fits = omega arith }
+pub get-page-requires : goal.get-page-requires
+get-page-requires c = record { small = omega arith; low = omega arith; high = omega arith; fits = omega arith }

@@ -5,7 +5,7 @@ use Rattle.entries.proofs.place.settle.Goals as goal
 pub returns-then-offset-n-gt1024 : goal.returns-then-offset-n-gt1024
 returns-then-offset-n-gt1024 c =
     let p = c.requires in
-    settle-next _ p.2 p.0 p.1 c.if-offset-n-gt1024.true _ c.get32-next.ensures.is
+    settle-next _ p.2 p.0 p.1 c.if-offset-n-gt1024.true _ c.get-next.ensures.is
 
 pub returns : goal.returns
 returns c = settle-here _ c.requires.2 c.if-offset-n-gt1024.false

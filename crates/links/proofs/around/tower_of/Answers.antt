@@ -7,23 +7,23 @@ use Rattle.links.proofs.around.tower_of.Goals as goal
 pub returns-then-lowest-eq0 : goal.returns-then-lowest-eq0
 returns-then-lowest-eq0 c = record { is = λ root t k a. flat-none a c.if-lowest-eq0.true }
 
-pub get32-next-requires : goal.get32-next-requires
-get32-next-requires c = lowest-inside c.requires.is c.if-lowest-eq0.false
+pub get-next-requires : goal.get-next-requires
+get-next-requires c = lowest-inside c.requires.is c.if-lowest-eq0.false
 
 pub returns-then-next-eq0 : goal.returns-then-next-eq0
-returns-then-next-eq0 c = record { is = λ root t k a. next-none a c.if-lowest-eq0.false _ c.get32-next.ensures.is (inl c.if-next-eq0.true) }
+returns-then-next-eq0 c = record { is = λ root t k a. next-none a c.if-lowest-eq0.false _ c.get-next.ensures.is (inl c.if-next-eq0.true) }
 
-pub get32-requires : goal.get32-requires
-get32-requires c = next-inside c.requires.is c.if-lowest-eq0.false _ c.get32-next.ensures.is c.if-next-eq0.false
+pub get-requires : goal.get-requires
+get-requires c = next-inside c.requires.is c.if-lowest-eq0.false _ c.get-next.ensures.is c.if-next-eq0.false
 
-pub returns-then-get32-page : goal.returns-then-get32-page
-returns-then-get32-page c = record {
+pub returns-then-get-page : goal.returns-then-get-page
+returns-then-get-page c = record {
   is = λ root t k a.
-      next-none a c.if-lowest-eq0.false _ c.get32-next.ensures.is (inr (λ e. c.if-get32-page.true (c.get32.ensures.is ∙ e)));
+      next-none a c.if-lowest-eq0.false _ c.get-next.ensures.is (inr (λ e. c.if-get-page.true (c.get.ensures.is ∙ e)));
 }
 
 pub returns : goal.returns
 returns c = record {
   is = λ root t k a.
-      next-own a c.if-lowest-eq0.false _ c.get32-next.ensures.is c.if-next-eq0.false (sym c.get32.ensures.is ∙ c.if-get32-page.false);
+      next-own a c.if-lowest-eq0.false _ c.get-next.ensures.is c.if-next-eq0.false (sym c.get.ensures.is ∙ c.if-get-page.false);
 }

@@ -13,22 +13,22 @@ returns-in-Some c = record {
   is = λ t. next_here t _ _ c.find_by_towers-page.ensures _ c.key_above.ensures _ c.in-Some.is;
 }
 
-pub get32-next-requires : goal.get32-next-requires
-get32-next-requires c = span-inside (target-span c.requires _ _ c.find_by_towers-page.ensures).on _ _ (omega arith)
+pub get-next-requires : goal.get-next-requires
+get-next-requires c = span-inside (target-span c.requires _ _ c.find_by_towers-page.ensures).on _ _ (omega arith)
 
 pub returns-then-next-eq0 : goal.returns-then-next-eq0
 returns-then-next-eq0 c = record {
   is = λ t.
-      next-none t _ _ c.find_by_towers-page.ensures _ c.key_above.ensures c.in_default.is _ c.get32-next.ensures.is c.if-next-eq0.true;
+      next-none t _ _ c.find_by_towers-page.ensures _ c.key_above.ensures c.in_default.is _ c.get-next.ensures.is c.if-next-eq0.true;
 }
 
 pub key_of-requires : goal.key_of-requires
 key_of-requires c =
     next-there c.requires _ _ c.find_by_towers-page.ensures _ c.key_above.ensures
-    c.in_default.is _ c.get32-next.ensures.is c.if-next-eq0.false
+    c.in_default.is _ c.get-next.ensures.is c.if-next-eq0.false
 
 pub returns : goal.returns
 returns c = record {
   is = λ t.
-      next-is t _ _ c.find_by_towers-page.ensures _ c.key_above.ensures c.in_default.is _ c.get32-next.ensures.is c.if-next-eq0.false _ c.key_of.ensures;
+      next-is t _ _ c.find_by_towers-page.ensures _ c.key_above.ensures c.in_default.is _ c.get-next.ensures.is c.if-next-eq0.false _ c.key_of.ensures;
 }

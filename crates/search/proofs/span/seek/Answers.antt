@@ -3,11 +3,11 @@ use Rattle.search.proofs.Entries.{along-enough, entry_key}
 use Rattle.search.proofs.Seeks.{span-inside, seeking-start, seeking-end, seeking-open, opened-entry, seeking-next, seeking-here, seeking-above}
 use Rattle.search.proofs.span.seek.Goals as goal
 
-pub get16-left-requires : goal.get16-left-requires
-get16-left-requires c = span-inside c.requires.on _ _ (omega arith)
+pub get-left-requires : goal.get-left-requires
+get-left-requires c = span-inside c.requires.on _ _ (omega arith)
 
 pub loop-left-init : goal.loop-left-init
-loop-left-init c x = seeking-start _ _ c.get16-left.ensures.is x.on
+loop-left-init c x = seeking-start _ _ c.get-left.ensures.is x.on
 
 pub lengths-g-requires : goal.lengths-g-requires
 lengths-g-requires c = along-enough (seeking-open (c.loop-left.invariant c.requires) c.loop-left-test.true).ahead.along

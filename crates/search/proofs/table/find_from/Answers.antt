@@ -9,15 +9,15 @@ start-page-requires c =
     let p = c.requires in
     (reading-inside p.0.of _ _ (omega arith), start-inside p.0 p.1)
 
-pub get32-next-requires : goal.get32-next-requires
-get32-next-requires c =
+pub get-next-requires : goal.get-next-requires
+get-next-requires c =
     let p = c.requires in
     walk_inside p.0.of _ (started p.0 p.1 _ c.start-page.ensures) _ _ (omega arith)
 
 pub loop-next-init : goal.loop-next-init
 loop-next-init c =
     let p = c.requires in
-    (λ x. started x p.1 _ c.start-page.ensures, c.get32-next.ensures.is)
+    (λ x. started x p.1 _ c.start-page.ensures, c.get-next.ensures.is)
 
 pub begins_past-requires : goal.begins_past-requires
 begins_past-requires c =
@@ -30,8 +30,8 @@ returns-then-begins_past c =
     let v = c.loop-next.invariant in
     record { is = λ x. walk-stop x.of _ (v.0 x) _ v.1 c.loop-next-test.true x.by refl _ c.begins_past.ensures c.if-begins_past.true }
 
-pub get32-next-requires-in-loop-next : goal.get32-next-requires-in-loop-next
-get32-next-requires-in-loop-next c =
+pub get-next-requires-in-loop-next : goal.get-next-requires-in-loop-next
+get-next-requires-in-loop-next c =
     let v = c.loop-next.invariant in
     let x = c.requires.0 in
     walk_inside x.of _ (walk-on x.of _ (v.0 x) _ v.1 c.loop-next-test.true x.by refl _ c.begins_past.ensures c.if-begins_past.false) _ _ (omega arith)
@@ -45,7 +45,7 @@ loop-next-smaller c =
 pub loop-next-preserved : goal.loop-next-preserved
 loop-next-preserved c =
     let v = c.loop-next.invariant in
-    (λ x. walk-on x.of _ (v.0 x) _ v.1 c.loop-next-test.true x.by refl _ c.begins_past.ensures c.if-begins_past.false, c.get32-next-in-loop-next.ensures.is)
+    (λ x. walk-on x.of _ (v.0 x) _ v.1 c.loop-next-test.true x.by refl _ c.begins_past.ensures c.if-begins_past.false, c.get-next-in-loop-next.ensures.is)
 
 pub returns : goal.returns
 returns c = let v = c.loop-next.invariant in record { is = λ x. walk_end x.of _ (v.0 x) _ v.1 c.loop-next-test.false }

@@ -21,8 +21,8 @@ overflow_add-count c =
     let w = c.loop-page.invariant k.0 k.1 in
     omega (arith, (noting-few w c.loop-page-test.true (c.claim.ensures k.0 w.claiming.lent) c.if-not-claim.false).0)
 
-pub head32-page-requires : goal.head32-page-requires
-head32-page-requires c =
+pub from_head-page-requires : goal.from_head-page-requires
+from_head-page-requires c =
     let k = c.requires in
     let w = c.loop-page.invariant k.0 k.1 in
     claim-in-head (c.claim.ensures k.0 w.claiming.lent) c.if-not-claim.false w.claiming.lent (omega arith)
@@ -39,7 +39,7 @@ loop-page-preserved c img lent =
     let claim = c.claim.ensures img w.claiming.lent in
     let done = c.if-not-claim.false in
     noting-next w c.loop-page-test.true claim done c.note.ensures _
-    (claim-head32 claim done w.claiming.lent (omega arith) (omega arith) c.head32-page.ensures).is
+    (claim-head32 claim done w.claiming.lent (omega arith) (omega arith) c.from_head-page.ensures).is
 
 pub returns : goal.returns
 returns c img lent = noting-end (c.loop-page.invariant img lent) c.loop-page-test.false

@@ -4,8 +4,8 @@ use Rattle.walks.proofs.Pieces.{claim-lent, claim-in-head, claim-head32}
 use Rattle.spans.proofs.PageClaims.{pages-no, pages-then}
 use Rattle.spans.proofs.claims.claim_span.Goals as goal
 
-pub head32-first-requires : goal.head32-first-requires
-head32-first-requires c =
+pub from_head-first-requires : goal.from_head-first-requires
+from_head-first-requires c =
     let k = c.requires in
     claim-in-head (c.claim.ensures k.0 k.1) c.if-claim.true k.1 (omega arith)
 
@@ -17,7 +17,7 @@ claim_conts-requires c =
 pub returns-then-claim : goal.returns-then-claim
 returns-then-claim c img lent =
     let claim = c.claim.ensures img lent in
-    pages-then claim c.if-claim.true _ (claim-head32 claim c.if-claim.true lent (omega arith) (omega arith) c.head32-first.ensures).is (c.claim_conts.ensures img (claim-lent claim c.if-claim.true lent))
+    pages-then claim c.if-claim.true _ (claim-head32 claim c.if-claim.true lent (omega arith) (omega arith) c.from_head-first.ensures).is (c.claim_conts.ensures img (claim-lent claim c.if-claim.true lent))
 
 pub returns : goal.returns
 returns c img lent = pages-no (c.claim.ensures img lent) c.if-claim.false

@@ -11,7 +11,7 @@ measure_part-stay-requires c =
 pub measure_part-moved-requires : goal.measure_part-moved-requires
 measure_part-moved-requires c =
     let p = c.requires in
-    (middle-going p.0 _ c.start.ensures _ c.measure_part-stay.ensures _ c.get16-size.ensures _ (omega arith), p.1)
+    (middle-going p.0 _ c.start.ensures _ c.measure_part-stay.ensures _ c.get-size.ensures _ (omega arith), p.1)
 
 pub returns : goal.returns
-returns c = measure-done c.requires.0 _ c.start.ensures _ c.measure_part-stay.ensures _ c.get16-size.ensures _ (omega arith) _ c.measure_part-moved.ensures
+returns c = measure-done c.requires.0 _ c.start.ensures _ c.measure_part-stay.ensures _ c.get-size.ensures _ (omega arith) _ c.measure_part-moved.ensures

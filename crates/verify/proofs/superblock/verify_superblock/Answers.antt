@@ -13,18 +13,18 @@ is_fixed-requires c =
     let i = claim-inside (c.claim.ensures _ c.requires) c.if-not-claim.false c.requires {o = 0} {w = 0} (omega arith) in
     (omega (arith, room.size), (omega (arith, i.high), omega (arith, room.size, room.most)))
 
-pub get16-mounted-requires : goal.get16-mounted-requires
-get16-mounted-requires c = (claim-inside (c.claim.ensures _ c.requires) c.if-not-claim.false c.requires (omega arith))
+pub get-mounted-requires : goal.get-mounted-requires
+get-mounted-requires c = (claim-inside (c.claim.ensures _ c.requires) c.if-not-claim.false c.requires (omega arith))
 
-pub get16-size-requires : goal.get16-size-requires
-get16-size-requires c = (claim-inside (c.claim.ensures _ c.requires) c.if-not-claim.false c.requires (omega arith))
+pub get-size-requires : goal.get-size-requires
+get-size-requires c = (claim-inside (c.claim.ensures _ c.requires) c.if-not-claim.false c.requires (omega arith))
 
-pub get32-requires : goal.get32-requires
-get32-requires c = (claim-inside (c.claim.ensures _ c.requires) c.if-not-claim.false c.requires (omega arith))
+pub get-requires : goal.get-requires
+get-requires c = (claim-inside (c.claim.ensures _ c.requires) c.if-not-claim.false c.requires (omega arith))
 
 pub returns : goal.returns
 returns c =
     super-done _ _ _ _ (c.claim.ensures _ c.requires) c.if-not-claim.false _ (omega (arith, c.requires.room.size)) _ c.is_fixed.ensures
     c.if-not-is_fixed.false
-    (omega (arith, c.get16-mounted.ensures.is))
-    _ c.get32.ensures.is _ c.get16-size.ensures.is (omega arith)
+    (omega (arith, c.get-mounted.ensures.is))
+    _ c.get.ensures.is _ c.get-size.ensures.is (omega arith)

@@ -1,7 +1,7 @@
--- `pages::read::word16` meets its contract.
+-- `pages::word` reads a number of two bytes.
 use native.Mathlib.Omega.{arith}
 use Rattle.blockfile.specs.Bytes.{be16}
-use Rattle.pages.proofs.read.word16.Goals as goal
+use Rattle.pages.proofs.word.U16Word.read.Goals as goal
 
 pub returns : goal.returns
 unfolding be16

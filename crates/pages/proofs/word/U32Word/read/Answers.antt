@@ -1,7 +1,7 @@
--- `pages::read::word32` meets its contract: it is two numbers of two bytes.
+-- `pages::word` reads a number of four bytes: it is two numbers of two bytes.
 use native.Mathlib.Omega.{arith}
 use Rattle.blockfile.specs.Bytes.{be32}
-use Rattle.pages.proofs.read.word32.Goals as goal
+use Rattle.pages.proofs.word.U32Word.read.Goals as goal
 
 pub returns : goal.returns
 unfolding be32

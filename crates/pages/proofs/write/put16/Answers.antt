@@ -1,7 +1,0 @@
--- `pages::write::put16` meets its contract: an offset of a page is a place in the image.
-use mathlib.Core.Path.{sym, ◌∙◌}
-use Rattle.laws.proofs.Pages.{write-from}
-use Rattle.pages.proofs.write.put16.Goals as goal
-
-pub returns : goal.returns
-returns c = c.store16.ensures ∙ sym (write-from _ _ _ _ c.requires.low)
