@@ -4,4 +4,3 @@ pub mod Words
 pub mod Marks
 pub mod Taking
 pub mod Skips
-pub mod Widths

@@ -4,7 +4,7 @@ ghost use Rattle.std.proofs.lemmas.List.Edits.{sets};
 ghost use Rattle.blockfile.specs.Bytes.{pg, be16, be32, word16, word32};
 ghost use Rattle.laws.proofs.Pages.{be16-pg, be32-pg};
 ghost use Rattle.pages.specs.Places.{Number};
-ghost use Rattle.pages.proofs.Widths.{some-two, some-four};
+ghost use Rattle.std.proofs.Math.Dec.{lit<};
 
 use crate::write::copy_bytes;
 
@@ -48,7 +48,7 @@ impl Word for u16 {
 
     ghost digits = { word16 };
 
-    ghost some = { some-two };
+    ghost some = { lit< tt };
 
     ghost on_page = { be16-pg };
 
@@ -73,7 +73,7 @@ impl Word for u32 {
 
     ghost digits = { word32 };
 
-    ghost some = { some-four };
+    ghost some = { lit< tt };
 
     ghost on_page = { be32-pg };
 
