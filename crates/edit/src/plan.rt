@@ -24,7 +24,8 @@ pub struct Plan {
     pub base: usize,
 }
 
-// Reads all that a change of the span on `page` goes by. The new entry has `both` bytes of key and value.
+// Reads all that a change of the span on `page` goes by. The new entry has `both` bytes of key and value. What is passed comes from the
+// search, the entry, the image and the caller; the plan is where it comes together.
 pub fn make_plan(
     image: &[u8],
     root: usize,

@@ -9,6 +9,7 @@ use pages::read::get;
 
 // The tower passed at each level: the last one there whose span begins at the key or below it, the head if there is none. As many levels
 // as the head has are in use, the others are 0.
+// An array with its height beside it, since the store has no heap.
 #[derive(Clone, Copy)]
 pub struct Path {
     pub pages: [u16; 252],

@@ -34,6 +34,7 @@ pub fn seek(image: &[u8], page: usize, sort: Sort, key: &[u8]) -> Stop
 {
     let mut at = Place { page, offset: 20 };
     let mut left = get::<u16>(image, page, 18);
+    // Counted down by hand: how many are left is a part of the answer.
     while left != 0 {
         let g = lengths(image, at);
         match compare_as(image, g.after, g.key, sort, key) {

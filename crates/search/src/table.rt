@@ -11,7 +11,8 @@ use entries::copy::number;
 use order::sort::Sort;
 use pages::read::get;
 
-// A table: its skip-list page, and how its keys sort.
+// A table: its skip-list page, and how its keys sort. That an image has it (`ReadingBy`) is no invariant of this type, since put and remove
+// change the image while they hold it.
 #[derive(Clone, Copy)]
 pub struct TableRef {
     pub root: usize,

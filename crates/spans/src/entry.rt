@@ -285,6 +285,7 @@ pub fn verify_entries<'a>(
     let mut here = from;
     let mut run = size;
     let mut i = 0;
+    // By hand: the step is as many entries as were read.
     while i < size {
         let skimmed = skim(pages.image, here, run, sort);
         let to = skimmed.to;

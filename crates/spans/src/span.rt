@@ -67,7 +67,8 @@ fn read_span<'a>(
 }
 
 // Claims and reads the span on `page`; `previous` is the page of the span before it, or 0, and `last` the last key met. The chart
-// may hold anything: it is lent, since making one takes as long as reading some entries.
+// may hold anything: it is lent, since making one takes as long as reading some entries. Its parameters have no type in common: two of
+// them are written, three are the walk's and change from span to span, and `rules` stays.
 pub fn verify_span(
     image: &[u8],
     scratch: &mut [u8],
