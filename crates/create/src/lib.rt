@@ -17,6 +17,7 @@ pub mod table;
 // Enters the name in the span on `page` of the metaindex, to which the path is, by the change, and writes its table, where `free`
 // pages are free. Answers how many are free after it; without room it is none, and nothing changes. The table's pages are drawn behind the
 // metaindex's, and a new name leaves no page of its span over: they come from the free list, and are known before anything is written.
+// Its parameters come from four places, and no two of them go on together.
 fn enter(
     image: &mut [u8],
     scratch: &mut [u8],

@@ -1,4 +1,4 @@
-// A list of page numbers in a buffer, four bytes each, big endian.
+// A list of page numbers in a buffer, four bytes each, big endian: lent memory, since the store has no heap.
 ghost use Rattle.std.specs.Prelude.{◌≡◌, ◌+◌, ◌*◌, ◌≤◌, length};
 ghost use Rattle.std.proofs.lemmas.List.Edits.{sets};
 ghost use Rattle.blockfile.specs.Bytes.{be32, word32};

@@ -68,7 +68,7 @@ fn compare_words(x: &[u8], y: &[u8], n: usize, from: usize) -> Ordering
     compare_rest(x, y, n, i)
 }
 
-// The order of two byte strings.
+// The order of two byte strings. By hand and not by `cmp` of the slices: its contract says that it goes by words.
 pub fn compare_bytes(x: &[u8], y: &[u8]) -> Ordering
     ensures { ByWords x.now y.now result }
 {

@@ -17,7 +17,7 @@ pub struct Lengths {
     pub most: usize,
 }
 
-// How the keys of a table sort whose name begins with this byte: as numbers under "#".
+// How the keys of a table sort whose name begins with this byte: as numbers under "#". No `From`, since not every byte tells a sort.
 pub fn sort_by(b: u8) -> Sort
     ensures { result ≡ cond (eqb b 0x23) Numbers Bytes }
 {

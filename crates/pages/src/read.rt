@@ -5,7 +5,7 @@ ghost use Rattle.pages.specs.Places.{Inside, Number};
 
 use crate::word::Word;
 
-// Eight bytes of any slice. In this order of the two halves they are compiled to one load.
+// Eight bytes of any slice: only read and never told a bound, and so no `Word`. In this order of the two halves they are compiled to one load.
 pub fn word64(bytes: &[u8], at: usize) -> usize
     requires { at + 8 ≤ length bytes.now }
     ensures { result ≡ be64 bytes.now at }

@@ -6,6 +6,7 @@ use links::around::{get_entries, tower_of};
 use pages::read::get;
 
 // A span's tower: its page, if there is one, and its height, 0 for none; for each of its levels the next tower behind it.
+// An array with a height beside it, since the store has no heap.
 #[derive(Clone, Copy)]
 pub struct OwnTower {
     pub page: Option<usize>,
