@@ -17,13 +17,15 @@ pub fn put<W: Word>(image: &mut [u8], page: usize, offset: usize, v: usize)
     W::store(image, 1024 * (page - 1) + offset, v)
 }
 
-// All of src, over the bytes of any slice from `from` on.
+// All of src, over the bytes of any slice from `from` on. Byte by byte: the library's copy of a slice would have the archive for C need
+// memmove from outside.
 pub fn copy_bytes(into: &mut [u8], from: usize, src: &[u8])
     requires { from + length src.now ≤ length into.old }
     ensures { into.new ≡ sets into.old from src.now }
 {
-    let end = from + src.len();
-    into[from..end].copy_from_slice(src)
+    for i in 0..src.len() {
+        into[from + i] = src[i];
+    }
 }
 
 // All of src.
