@@ -2,13 +2,18 @@
 use Prim.Native.Nat.{ℕ, ◌+◌, ◌*◌, ◌<◌, ◌≤◌}
 use native.Mathlib.Omega.{arith}
 use mathlib.Core.Path.{◌≡◌, ap, sym, ◌∙◌, subst}
+use mathlib.Core.Logic.{◌⊎◌, inl, inr}
 use mathlib.Core.List.{List, [], ◌∷◌, ◌++◌, append_assoc, append-nil}
 use lib.ListN.{length, take, drop, length-take}
 use lib.Seq.{sets, sets-eq}
 use Rattle.blockfile.specs.Bytes.{word32, Every, gather}
 use Rattle.blockfile.specs.Fields.{Numbers}
-use Rattle.laws.proofs.Lists.{sets-append}
+use Rattle.laws.specs.Lists.{Apart}
+use Rattle.laws.proofs.Lists.{sets-append, agree-off}
+use Rattle.laws.proofs.Numbers.{be32-agree}
 use Rattle.laws.proofs.Places.{gather_append}
+use Rattle.laws.proofs.FreeRead.{numbers-at}
+use Rattle.laws.proofs.Written.{numbers-from}
 use Rattle.laws.proofs.Encodes.{numbers-mid, length-numbers32}
 use Rattle.draw.specs.Hands.{stored}
 
@@ -32,3 +37,14 @@ module _ (numbers : List ℕ) (i : ℕ) where
       let back : List ℕ = drop (4 * i + length w) numbers in
       let e : stored numbers i ns ≡ front ++ (w ++ back) = sets-eq w numbers (4 * i) (omega (arith, length-numbers32 ns)) ∙ append_assoc front w back in
       subst (λ (b : List ℕ). Numbers b (4 * i) ns) (sym e) (numbers-mid ns front back (4 * i) (rw length-take (omega arith)) h)
+
+  -- and other numbers of the list stay
+  pub stored-apart : (ns : List ℕ) (j : ℕ) (ms : List ℕ) → (j + length ms ≤ i) ⊎ (i + length ns ≤ j) → Numbers numbers (4 * j) ms → Numbers (stored numbers i ns) (4 * j) ms
+  stored-apart ns j ms r h =
+      numbers-from (stored numbers i ns) (4 * j) ms
+      (λ k l. be32-agree (stored numbers i ns) (4 * j + 4 * k) numbers (4 * j + 4 * k) (agree-off 4 (gather word32 ns) numbers (4 * i) (4 * j + 4 * k) (off k l r))
+      ∙ numbers-at numbers (4 * j) ms k h l)
+    where
+      off : (k : ℕ) → k < length ms → (j + length ms ≤ i) ⊎ (i + length ns ≤ j) → Apart (4 * j + 4 * k) 4 (4 * i) (length (gather word32 ns))
+      off k l (inl q) = inl (omega arith)
+      off k l (inr q) = inr (omega (arith, length-numbers32 ns))
